@@ -1,0 +1,4 @@
+pub mod Finds
+pub mod Sized
+pub mod Steps
+pub mod Tallies

@@ -1,0 +1,5 @@
+pub mod Kinds
+pub mod Book
+pub mod Held
+pub mod Sizes
+pub mod Found
