@@ -6,6 +6,7 @@ use Prim.Native.Nat.{ℕ, _+_, _-_, _<_, _≤_, min}
 use native.Mathlib.Omega.{arith}
 use Rattle.std.proofs.shelf.Tests.{cases-lt}
 use lib.ListN.{length, take, getD, set}
+use Rattle.holder.specs.Stack.{Holding, room, waits}
 use Rattle.std.proofs.shelf.Lists.{take-more, take-more-set, take-all, reverse-append, length-reverse, length-take}
 
 module _ {A : Type 0} (xs : List A) where
@@ -31,3 +32,7 @@ module _ {A : Type 0} (xs : List A) where
 
   pub length-waits : (used : ℕ) → length (reverse (take used xs)) ≡ min used (length xs)
   length-waits used = length-reverse (take used xs) ∙ length-take used xs
+
+-- After a value was taken out there is room for one.
+pub taken-out : {A : Type 0} (h g : Holding A) (x : A) (n : ℕ) → waits h ≡ x ∷ waits g → room h ≡ n → length (waits g) < n
+taken-out h g x n e r = let l = length-waits (h .places) (h .used) in let m = ap length e in omega (arith, l, m, r)

@@ -112,3 +112,10 @@ module _ (name : ℕ) (es : List Entry) (ds : List Declaration) (i number : ℕ)
 
   pub procedure-none : length ds ≤ i → None ≡ whole
   procedure-none h = sym (at-drop-all (λ l. numberedFrom number name (proceduresIn (map (declaredIn es) l))) ds i h) ∙ inv
+
+-- What the first list has is found there; else it is what the second has.
+pub typeOf-first : (name : ℕ) (xs ys : List Entry) (t : ValueType) → Some t ≡ typeOf name xs → Some t ≡ typeOf name (xs ++ ys)
+typeOf-first name xs ys t e = ap (λ (o : Option ValueType). orElse o (typeOf name ys)) e ∙ sym (typeOf-append name xs ys)
+
+pub typeOf-later : (name : ℕ) (xs ys : List Entry) (r : Option ValueType) → None ≡ typeOf name xs → r ≡ typeOf name ys → r ≡ typeOf name (xs ++ ys)
+typeOf-later name xs ys r e f = f ∙ ap (λ (o : Option ValueType). orElse o (typeOf name ys)) e ∙ sym (typeOf-append name xs ys)
