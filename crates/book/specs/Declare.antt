@@ -1,0 +1,141 @@
+-- What Declare and Settle answer, and what they leave.
+use mathlib.Core.Bool.{Bool, cond, not, _&&_, _||_}
+use mathlib.Core.List.{List, [], _∷_, _++_}
+use Prim.Native.Nat.{ℕ, _+_, _<_, _≤_}
+use lib.Dec.{eqb, leb, ltb}
+use lib.ListN.{length, take, drop, set}
+use Rattle.std.specs.declared.option.Option.{Option}
+use Rattle.std.specs.declared.option.Option.the-variants.{Some, None}
+use Rattle.std.specs.declared.result.Result.{Result}
+use Rattle.std.specs.declared.result.Result.the-variants.{Ok, Err}
+use Rattle.fault.specs.declared.Cause.{Cause}
+use Rattle.fault.specs.declared.Cause.the-variants.{Call}
+use Rattle.fault.specs.declared.Fault.{Fault}
+use Rattle.fault.specs.declared.Ground.the-variants.{Form, Lists}
+use Rattle.page.specs.declared.Entry.{Entry}
+use Rattle.page.specs.Pages.{Sheet, entriesOf, pageOf}
+use Rattle.records.specs.declared.lists.ClauseKind.{ClauseKind}
+use Rattle.records.specs.declared.lists.ClauseKind.the-variants.{Axiom, Requires, Ensures, Modifies}
+use Rattle.records.specs.declared.lists.Counts.{Counts}
+use Rattle.records.specs.declared.lists.DeclarationKind.{DeclarationKind}
+use Rattle.records.specs.declared.lists.DeclarationKind.the-variants.{Constants, Globals, Procedure}
+use Rattle.records.specs.Book.{Book, Numbered, clausesOf, procedureNamed}
+use Rattle.records.specs.Held.{Stored, heldIn}
+use Rattle.book.specs.Rules.{axiomRule, conditionRule, countOf, modifiesRule, procedureRule, valuesRule}
+
+-- What a call ends with: its answer, the counts of the book, and the contents of the lists.
+pub record Ended : Type 0 where
+  pub answer : Result ℕ Fault
+  pub counts : Counts
+  pub lists : Stored
+
+-- A refusal leaves all as it was.
+abbrev pub refused : Cause → Counts → Stored → Ended
+refused cause n st = record { answer = Err (record { block = 0; cause = cause }); counts = n; lists = st }
+
+-- The page's entries do not fit into the book's 65,536, or not into the list.
+abbrev pub overfull : Counts → Stored → Sheet → Bool
+overfull n st p = ltb 65536 (n .entries + (p .a + p .b)) || ltb (length (st .entries)) (n .entries + (p .a + p .b))
+
+abbrev pub noDeclarationLeft : Counts → Stored → Sheet → Bool
+noDeclarationLeft n st p = leb (length (st .declarations)) (n .declarations) || overfull n st p
+
+abbrev pub noClauseLeft : Counts → Stored → Sheet → Bool
+noClauseLeft n st p = leb (length (st .clauses)) (n .clauses) || overfull n st p
+
+-- Entries written from a place on.
+abbrev pub written : List Entry → ℕ → List Entry → List Entry
+written old place new = take place old ++ (new ++ drop (place + length new) old)
+
+-- One declaration record more, and its entries.
+abbrev pub declarationAdded : DeclarationKind → ℕ → Sheet → ℕ → Counts → Stored → Ended
+declarationAdded kind name p number n st = record {
+  answer = Ok number;
+  counts = record { declarations = n .declarations + 1; clauses = n .clauses; entries = n .entries + (p .a + p .b) };
+  lists = record {
+    declarations = set (st .declarations) (n .declarations) (record { kind = kind; name = name; start = n .entries; a = p .a; b = p .b });
+    clauses = st .clauses;
+    entries = written (st .entries) (n .entries) (entriesOf p);
+  };
+}
+
+-- One clause record more, and its entries.
+abbrev pub clauseAdded : ClauseKind → ℕ → Sheet → ℕ → Counts → Stored → Ended
+clauseAdded kind procedure p number n st = record {
+  answer = Ok number;
+  counts = record { declarations = n .declarations; clauses = n .clauses + 1; entries = n .entries + (p .a + p .b) };
+  lists = record {
+    declarations = st .declarations;
+    clauses = set (st .clauses) (n .clauses) (record { kind = kind; procedure = procedure; start = n .entries; count = p .a + p .b });
+    entries = written (st .entries) (n .entries) (entriesOf p);
+  };
+}
+
+abbrev pub unless : Option Cause → Counts → Stored → Ended → Ended
+unless None n st ended = ended
+unless (Some cause) n st ended = refused cause n st
+
+-- A page that does not suit is refused, and then lists that hold no book.
+abbrev pub onBook : Bool → Counts → Stored → (Book → Ended) → Ended
+onBook suits n st rule =
+    cond suits (elim (heldIn n st) [ Some b ↦ rule b | None ↦ refused (Call Lists) n st ]) (refused (Call Form) n st)
+
+abbrev pub valuesDeclared : DeclarationKind → ℕ → Sheet → Counts → Stored → Ended
+valuesDeclared kind name p n st =
+    onBook (ltb 0 (p .a) && eqb (p .b) 0) n st
+    (λ b. unless (valuesRule kind name p (noDeclarationLeft n st p) b) n st (declarationAdded kind 0 p (countOf kind b) n st))
+
+abbrev pub procedureDeclared : ℕ → Sheet → Counts → Stored → Ended
+procedureDeclared name p n st =
+    onBook (leb (p .a) 16 && leb (p .b) 16) n st
+    (λ b. unless (procedureRule name p (noDeclarationLeft n st p) b) n st (declarationAdded Procedure name p (countOf Procedure b) n st))
+
+abbrev pub axiomStated : ℕ → Sheet → Counts → Stored → Ended
+axiomStated name p n st =
+    onBook (eqb (p .b) 0) n st
+    (λ b. unless (axiomRule name p (noClauseLeft n st p) b) n st (clauseAdded Axiom 0 p (length (clausesOf Axiom 0 b)) n st))
+
+-- The number of the named procedure, which an accepted clause has.
+abbrev pub numberIn : Option Numbered → ℕ
+numberIn None = 0
+numberIn (Some q) = q .number
+
+-- A clause's number is among those of its kind and procedure.
+abbrev pub clauseStated : ClauseKind → Option Numbered → Sheet → Book → Counts → Stored → Ended
+clauseStated kind q p b n st = clauseAdded kind (numberIn q) p (length (clausesOf kind (numberIn q) b)) n st
+
+abbrev pub conditionStated : ClauseKind → ℕ → Sheet → Counts → Stored → Ended
+conditionStated kind name p n st =
+    onBook (eqb (p .b) 0) n st
+    (λ b. unless (conditionRule kind name p (noClauseLeft n st p) b) n st (clauseStated kind (procedureNamed name b) p b n st))
+
+abbrev pub modifiesStated : ℕ → Sheet → Counts → Stored → Ended
+modifiesStated name p n st =
+    onBook (eqb (p .b) 0) n st
+    (λ b. unless (modifiesRule name p (noClauseLeft n st p) b) n st (clauseStated Modifies (procedureNamed name b) p b n st))
+
+abbrev pub declaredPage : ℕ → ℕ → Counts → Stored → Sheet → Ended
+declaredPage kind name n st p =
+    cond (eqb kind 3) (valuesDeclared Constants name p n st)
+    (cond (eqb kind 4) (valuesDeclared Globals name p n st)
+    (cond (eqb kind 6) (procedureDeclared name p n st)
+    (cond (eqb kind 7) (axiomStated name p n st)
+    (cond (eqb kind 8) (conditionStated Requires name p n st)
+    (cond (eqb kind 9) (conditionStated Ensures name p n st)
+    (cond (eqb kind 10) (modifiesStated name p n st)
+    (refused (Call Form) n st)))))))
+
+-- Declare.
+abbrev pub declared : ℕ → ℕ → List ℕ → Counts → Stored → Ended
+declared kind name numbers n st = elim (pageOf numbers) [ Some p ↦ declaredPage kind name n st p | None ↦ refused (Call Form) n st ]
+
+-- What the adding half of a declaration, or of a clause, needs.
+pub record DeclarationRoom (n : Counts) (st : Stored) (p : Sheet) : Type 0 where
+  pub within : n .entries + (p .a + p .b) ≤ 65536
+  pub entries : n .entries + (p .a + p .b) ≤ length (st .entries)
+  pub free : n .declarations < length (st .declarations)
+
+pub record ClauseRoom (n : Counts) (st : Stored) (p : Sheet) : Type 0 where
+  pub within : n .entries + (p .a + p .b) ≤ 65536
+  pub entries : n .entries + (p .a + p .b) ≤ length (st .entries)
+  pub free : n .clauses < length (st .clauses)

@@ -1,0 +1,4 @@
+pub mod Names
+pub mod NameGroups
+pub mod Rules
+pub mod Declare

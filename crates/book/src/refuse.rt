@@ -1,0 +1,31 @@
+ghost use Rattle.book.specs.Rules.{onCall, onEntry, refusal};
+ghost use mathlib.Core.Path.{_≡_};
+use fault::Cause;
+use fault::Ground;
+use fault::Place;
+
+/// Refuses the whole call, where a test says so.
+pub(crate) fn refuse_call(test: bool, ground: Ground) -> Result<(), Cause>
+    ensures { λ r. ⌜ refusal r ≡ onCall test ground ⌝ }
+{
+    if test {
+        return Err(Cause::Call(ground));
+    }
+    Ok(())
+}
+
+/// Refuses the entry at an index, where there is one.
+pub(crate) fn refuse_entry(ground: Ground, left: &[u32], index: usize) -> Result<(), Cause>
+    ensures { λ r. ⌜ refusal r ≡ onEntry ground (now (left .entry)) index ⌝ }
+{
+    if index < left.len() {
+        return Err(Cause::Entry(
+            ground,
+            Place::At {
+                index,
+                item: left[index],
+            },
+        ));
+    }
+    Ok(())
+}
