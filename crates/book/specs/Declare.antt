@@ -21,7 +21,7 @@ use Rattle.records.specs.declared.lists.DeclarationKind.{DeclarationKind}
 use Rattle.records.specs.declared.lists.DeclarationKind.the-variants.{Constants, Globals, Procedure}
 use Rattle.records.specs.Book.{Book, Numbered, clausesOf, procedureNamed}
 use Rattle.records.specs.Held.{Stored, heldIn}
-use Rattle.book.specs.Rules.{axiomRule, conditionRule, countOf, modifiesRule, procedureRule, valuesRule}
+use Rattle.book.specs.Rules.{axiomRule, conditionRule, countOf, modifiesRule, procedureRule, statedFor, valuesRule}
 
 -- What a call ends with: its answer, the counts of the book, and the contents of the lists.
 pub record Ended : Type 0 where
@@ -102,7 +102,7 @@ numberIn (Some q) = q .number
 
 -- A clause's number is among those of its kind and procedure.
 abbrev pub clauseStated : ClauseKind → Option Numbered → Sheet → Book → Counts → Stored → Ended
-clauseStated kind q p b n st = clauseAdded kind (numberIn q) p (length (clausesOf kind (numberIn q) b)) n st
+clauseStated kind q p b n st = clauseAdded kind (numberIn q) p (statedFor kind q b) n st
 
 abbrev pub conditionStated : ClauseKind → ℕ → Sheet → Counts → Stored → Ended
 conditionStated kind name p n st =

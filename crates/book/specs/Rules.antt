@@ -98,10 +98,10 @@ axiomRule name p full b =
     (orElse (onCall (isFull Axiom (length (clausesOf Axiom 0 b)) || full) Limit)
     (refusal (checked (scopeFor Axiom nobody b) (entriesOf p))))
 
--- Are there as many clauses of a kind as the procedure may have? Nothing is known of a procedure that is missing.
-abbrev pub hasFull : ClauseKind → Option Numbered → Book → Bool
-hasFull kind None b = false
-hasFull kind (Some q) b = isFull kind (length (clausesOf kind (q .number) b))
+-- How many clauses of a kind the procedure has; one that is missing has none.
+abbrev pub statedFor : ClauseKind → Option Numbered → Book → ℕ
+statedFor kind None b = 0
+statedFor kind (Some q) b = length (clausesOf kind (q .number) b)
 
 abbrev pub withProcedure : Option Numbered → (Numbered → Option Cause) → Option Cause
 withProcedure None rule = Some (Call UnknownProcedure)
@@ -111,7 +111,7 @@ withProcedure (Some q) rule = rule q
 abbrev pub conditionRule : ClauseKind → ℕ → Sheet → Bool → Book → Option Cause
 conditionRule kind name p full b =
     orElse (onCall (not (isName name)) Naming)
-    (orElse (onCall (hasFull kind (procedureNamed name b) b || full) Limit)
+    (orElse (onCall (isFull kind (statedFor kind (procedureNamed name b) b) || full) Limit)
     (withProcedure (procedureNamed name b) (λ q. refusal (checked (scopeFor kind q b) (entriesOf p)))))
 
 abbrev pub modifiedSoFar : Option Numbered → Book → List Entry

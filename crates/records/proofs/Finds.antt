@@ -20,7 +20,7 @@ use Rattle.records.specs.declared.lists.Clause.{Clause}
 use Rattle.records.specs.declared.lists.ClauseKind.{ClauseKind}
 use Rattle.records.specs.declared.lists.Declaration.{Declaration}
 use Rattle.records.specs.declared.lists.DeclarationKind.the-variants.{Procedure}
-use Rattle.records.specs.Book.{Numbered, belongs, numberedFrom, proceduresIn, statedAs}
+use Rattle.records.specs.Book.{Declared, Numbered, belongs, numberedFrom, proceduresIn, statedAs}
 use Rattle.records.specs.Found.{orElse}
 use Rattle.records.specs.Held.{declaredIn, statedIn}
 use Rattle.records.specs.Kinds.{sameDeclaration}
@@ -119,3 +119,13 @@ typeOf-first name xs ys t e = ap (λ (o : Option ValueType). orElse o (typeOf na
 
 pub typeOf-later : (name : ℕ) (xs ys : List Entry) (r : Option ValueType) → None ≡ typeOf name xs → r ≡ typeOf name ys → r ≡ typeOf name (xs ++ ys)
 typeOf-later name xs ys r e f = f ∙ ap (λ (o : Option ValueType). orElse o (typeOf name ys)) e ∙ sym (typeOf-append name xs ys)
+
+-- A procedure's number counts those before it.
+pub numbered-below : (number name : ℕ) (ps : List Declared) (q : Numbered) → Some q ≡ numberedFrom number name ps → q .number < number + length ps
+numbered-below number name [] q e = let z : _≡_ {A = ℕ} 0 1 = cc in absurd (omega arith)
+numbered-below number name (p ∷ ps) q e = by (eqb (p .name) name) e (λ h. numbered-below (number + 1) name ps q h)
+  where
+    by : (b : Bool) → Some q ≡ cond b (Some (record { number = number; ins = p .ins; parameters = p .entries })) (numberedFrom (number + 1) name ps)
+        → (Some q ≡ numberedFrom (number + 1) name ps → q .number < (number + 1) + length ps) → q .number < number + length (p ∷ ps)
+    by true i f = let n : q .number ≡ number = cc in omega arith
+    by false i f = let l = f i in omega arith

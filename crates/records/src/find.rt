@@ -134,3 +134,12 @@ impl Clause {
         self.kind.is(kind) && (kind.is(ClauseKind::Axiom) || self.procedure as usize == procedure)
     }
 }
+
+impl<'a> Procedure<'a> {
+    /// The in-parameters.
+    pub fn in_parameters(self) -> &'a [Entry]
+        ensures { λ r. ⌜ now r ≡ take (self .entry .ins) (now (self .entry .parameters)) ⌝ }
+    {
+        part(self.parameters, 0, self.ins as usize)
+    }
+}
