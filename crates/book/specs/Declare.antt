@@ -1,5 +1,5 @@
 -- What Declare and Settle answer, and what they leave.
-use mathlib.Core.Bool.{Bool, cond, not, _&&_, _||_}
+use mathlib.Core.Bool.{Bool, cond, _&&_, _||_}
 use mathlib.Core.List.{List, [], _∷_, _++_}
 use Prim.Native.Nat.{ℕ, _+_, _<_, _≤_}
 use lib.Dec.{eqb, leb, ltb}
@@ -21,6 +21,7 @@ use Rattle.records.specs.declared.lists.DeclarationKind.{DeclarationKind}
 use Rattle.records.specs.declared.lists.DeclarationKind.the-variants.{Constants, Globals, Procedure}
 use Rattle.records.specs.Book.{Book, Numbered, clausesOf, procedureNamed}
 use Rattle.records.specs.Held.{Stored, heldIn}
+use Rattle.book.specs.declared.clauses.Stating.{Stating}
 use Rattle.book.specs.Rules.{axiomRule, conditionRule, countOf, modifiesRule, procedureRule, statedFor, valuesRule}
 
 -- What a call ends with: its answer, the counts of the book, and the contents of the lists.
@@ -71,58 +72,72 @@ clauseAdded kind procedure p number n st = record {
   };
 }
 
-abbrev pub unless : Option Cause → Counts → Stored → Ended → Ended
-unless None n st ended = ended
-unless (Some cause) n st ended = refused cause n st
+-- A declaration that was judged.
+abbrev pub declarationEnded : DeclarationKind → ℕ → Sheet → Counts → Stored → Result ℕ Cause → Ended
+declarationEnded kind name p n st (Ok number) = declarationAdded kind name p number n st
+declarationEnded kind name p n st (Err cause) = refused cause n st
 
--- A page that does not suit is refused, and then lists that hold no book.
-abbrev pub onBook : Bool → Counts → Stored → (Book → Ended) → Ended
-onBook suits n st rule =
-    cond suits (elim (heldIn n st) [ Some b ↦ rule b | None ↦ refused (Call Lists) n st ]) (refused (Call Form) n st)
+-- A clause that was judged.
+abbrev pub clauseEnded : ClauseKind → Sheet → Counts → Stored → Result Stating Cause → Ended
+clauseEnded kind p n st (Ok s) = clauseAdded kind (s .procedure) p (s .number) n st
+clauseEnded kind p n st (Err cause) = refused cause n st
 
-abbrev pub valuesDeclared : DeclarationKind → ℕ → Sheet → Counts → Stored → Ended
-valuesDeclared kind name p n st =
-    onBook (ltb 0 (p .a) && eqb (p .b) 0) n st
-    (λ b. unless (valuesRule kind name p (noDeclarationLeft n st p) b) n st (declarationAdded kind 0 p (countOf kind b) n st))
+abbrev pub accepting : {A : Type 0} → Option Cause → A → Result A Cause
+accepting None a = Ok a
+accepting (Some cause) a = Err cause
 
-abbrev pub procedureDeclared : ℕ → Sheet → Counts → Stored → Ended
-procedureDeclared name p n st =
-    onBook (leb (p .a) 16 && leb (p .b) 16) n st
-    (λ b. unless (procedureRule name p (noDeclarationLeft n st p) b) n st (declarationAdded Procedure name p (countOf Procedure b) n st))
+-- First the sizes are looked at, then whether the lists hold a book, and then the rule.
+abbrev pub verdict : {A : Type 0} → Bool → Counts → Stored → (Book → Result A Cause) → Result A Cause
+verdict suits n st rule =
+    cond suits (elim (heldIn n st) [ Some b ↦ rule b | None ↦ Err (Call Lists) ]) (Err (Call Form))
 
-abbrev pub axiomStated : ℕ → Sheet → Counts → Stored → Ended
-axiomStated name p n st =
-    onBook (eqb (p .b) 0) n st
-    (λ b. unless (axiomRule name p (noClauseLeft n st p) b) n st (clauseAdded Axiom 0 p (length (clausesOf Axiom 0 b)) n st))
+-- Constants or globals: the number of the first.
+abbrev pub valuesVerdict : DeclarationKind → ℕ → Sheet → Counts → Stored → Result ℕ Cause
+valuesVerdict kind name p n st =
+    verdict (ltb 0 (p .a) && eqb (p .b) 0) n st
+    (λ b. accepting (valuesRule kind name p (noDeclarationLeft n st p) b) (countOf kind b))
+
+-- A procedure: its number.
+abbrev pub procedureVerdict : ℕ → Sheet → Counts → Stored → Result ℕ Cause
+procedureVerdict name p n st =
+    verdict (leb (p .a) 16 && leb (p .b) 16) n st
+    (λ b. accepting (procedureRule name p (noDeclarationLeft n st p) b) (countOf Procedure b))
+
+-- An axiom: its number.
+abbrev pub axiomVerdict : ℕ → Sheet → Counts → Stored → Result Stating Cause
+axiomVerdict name p n st =
+    verdict (eqb (p .b) 0) n st
+    (λ b. accepting (axiomRule name p (noClauseLeft n st p) b) (record { procedure = 0; number = length (clausesOf Axiom 0 b) }))
 
 -- The number of the named procedure, which an accepted clause has.
 abbrev pub numberIn : Option Numbered → ℕ
 numberIn None = 0
 numberIn (Some q) = q .number
 
--- A clause's number is among those of its kind and procedure.
-abbrev pub clauseStated : ClauseKind → Option Numbered → Sheet → Book → Counts → Stored → Ended
-clauseStated kind q p b n st = clauseAdded kind (numberIn q) p (statedFor kind q b) n st
+-- A clause of a procedure: the procedure's number, and its own among the clauses of its kind.
+abbrev pub stating : ClauseKind → ℕ → Book → Stating
+stating kind name b = record { procedure = numberIn (procedureNamed name b); number = statedFor kind (procedureNamed name b) b }
 
-abbrev pub conditionStated : ClauseKind → ℕ → Sheet → Counts → Stored → Ended
-conditionStated kind name p n st =
-    onBook (eqb (p .b) 0) n st
-    (λ b. unless (conditionRule kind name p (noClauseLeft n st p) b) n st (clauseStated kind (procedureNamed name b) p b n st))
+abbrev pub conditionVerdict : ClauseKind → ℕ → Sheet → Counts → Stored → Result Stating Cause
+conditionVerdict kind name p n st =
+    verdict (eqb (p .b) 0) n st
+    (λ b. accepting (conditionRule kind name p (noClauseLeft n st p) b) (stating kind name b))
 
-abbrev pub modifiesStated : ℕ → Sheet → Counts → Stored → Ended
-modifiesStated name p n st =
-    onBook (eqb (p .b) 0) n st
-    (λ b. unless (modifiesRule name p (noClauseLeft n st p) b) n st (clauseStated Modifies (procedureNamed name b) p b n st))
+abbrev pub modifiesVerdict : ℕ → Sheet → Counts → Stored → Result Stating Cause
+modifiesVerdict name p n st =
+    verdict (eqb (p .b) 0) n st
+    (λ b. accepting (modifiesRule name p (noClauseLeft n st p) b) (stating Modifies name b))
 
+-- By the kind's number.
 abbrev pub declaredPage : ℕ → ℕ → Counts → Stored → Sheet → Ended
 declaredPage kind name n st p =
-    cond (eqb kind 3) (valuesDeclared Constants name p n st)
-    (cond (eqb kind 4) (valuesDeclared Globals name p n st)
-    (cond (eqb kind 6) (procedureDeclared name p n st)
-    (cond (eqb kind 7) (axiomStated name p n st)
-    (cond (eqb kind 8) (conditionStated Requires name p n st)
-    (cond (eqb kind 9) (conditionStated Ensures name p n st)
-    (cond (eqb kind 10) (modifiesStated name p n st)
+    cond (eqb kind 3) (declarationEnded Constants 0 p n st (valuesVerdict Constants name p n st))
+    (cond (eqb kind 4) (declarationEnded Globals 0 p n st (valuesVerdict Globals name p n st))
+    (cond (eqb kind 6) (declarationEnded Procedure name p n st (procedureVerdict name p n st))
+    (cond (eqb kind 7) (clauseEnded Axiom p n st (axiomVerdict name p n st))
+    (cond (eqb kind 8) (clauseEnded Requires p n st (conditionVerdict Requires name p n st))
+    (cond (eqb kind 9) (clauseEnded Ensures p n st (conditionVerdict Ensures name p n st))
+    (cond (eqb kind 10) (clauseEnded Modifies p n st (modifiesVerdict name p n st))
     (refused (Call Form) n st)))))))
 
 -- Declare.

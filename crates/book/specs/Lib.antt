@@ -1,5 +1,5 @@
+pub mod Conditions
 pub mod Names
 pub mod NameGroups
 pub mod Rules
 pub mod Declare
-pub mod Stating

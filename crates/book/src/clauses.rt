@@ -1,8 +1,9 @@
 ghost use Prim.Native.Nat.{_<_, _≤_};
-ghost use Rattle.book.specs.Declare.{numberIn};
+ghost use Rattle.book.specs.Conditions.{IsCondition};
+ghost use Rattle.book.specs.Declare.{accepting, stating};
 ghost use Rattle.book.specs.NameGroups.{namesIn};
-ghost use Rattle.book.specs.Rules.{axiomRule, conditionRule, modifiedSoFar, modifiesRule, nobody, refusal, scopeFor, statedFor};
-ghost use Rattle.book.specs.Stating.{IsCondition, StatedFor};
+ghost use Rattle.book.specs.Rules.{axiomRule, conditionRule, modifiedSoFar, modifiesRule, nobody, scopeFor, statedFor};
+
 ghost use Rattle.expression.specs.Scopes.{scopeOf};
 ghost use Rattle.language.specs.Checking.{checked};
 ghost use Rattle.page.specs.Pages.{entriesOf, shown};
@@ -75,22 +76,24 @@ fn ensures_scope<'a>(book: &HeldBook<'a>, procedure: Procedure<'a>) -> Scope<'a>
     }
 }
 
-/// The rule for an axiom; the answer is its number.
+/// The rule for an axiom.
 pub(crate) fn check_axiom(
     book: &HeldBook,
     full: bool,
     name: u32,
     page: Page,
-) -> Result<usize, Cause>
-    ensures is { λ r. ⌜ refusal r ≡ axiomRule name (shown (page .entry)) full (bookOf (now (book .entry))) ⌝ }
-    ensures number { λ r. ⌜ made r (λ n. n ≡ length (clausesOf Axiom 0 (bookOf (now (book .entry))))) ⌝ }
+) -> Result<Stating, Cause>
+    ensures is { λ r. ⌜ r ≡ accepting (axiomRule name (shown (page .entry)) full (bookOf (now (book .entry)))) (record { procedure = 0; number = length (clausesOf Axiom 0 (bookOf (now (book .entry)))) }) ⌝ }
     ensures room { λ r. ⌜ made r (λ _. full ≡ false) ⌝ }
 {
     refuse_call(name != 0, Ground::Naming)?;
     let number = book.count_clauses(ClauseKind::Axiom, 0);
     refuse_call(ClauseKind::Axiom.is_full(number) || full, Ground::Limit)?;
     check_page(&axiom_scope(book), page.left.numbers, page.right.numbers)?;
-    Ok(number)
+    Ok(Stating {
+        procedure: 0,
+        number,
+    })
 }
 
 /// How many clauses of a kind the procedure has, if there is one.
@@ -129,8 +132,7 @@ pub(crate) fn check_condition(
     page: Page,
 ) -> Result<Stating, Cause>
     requires { ⌜ IsCondition kind ⌝ ∗ ⌜ Counted (now book) ⌝ }
-    ensures is { λ r. ⌜ refusal r ≡ conditionRule kind name (shown (page .entry)) full (bookOf (now (book .entry))) ⌝ }
-    ensures stated { λ r. ⌜ made r (StatedFor kind name (bookOf (now (book .entry)))) ⌝ }
+    ensures is { λ r. ⌜ r ≡ accepting (conditionRule kind name (shown (page .entry)) full (bookOf (now (book .entry)))) (stating kind name (bookOf (now (book .entry)))) ⌝ }
     ensures room { λ r. ⌜ made r (λ _. full ≡ false) ⌝ }
 {
     refuse_call(!is_name(name), Ground::Naming)?;
@@ -165,8 +167,7 @@ pub(crate) fn check_modifies(
     page: Page,
 ) -> Result<Stating, Cause>
     requires { ⌜ Counted (now book) ⌝ }
-    ensures is { λ r. ⌜ refusal r ≡ modifiesRule name (shown (page .entry)) full (bookOf (now (book .entry))) ⌝ }
-    ensures stated { λ r. ⌜ made r (StatedFor Modifies name (bookOf (now (book .entry)))) ⌝ }
+    ensures is { λ r. ⌜ r ≡ accepting (modifiesRule name (shown (page .entry)) full (bookOf (now (book .entry)))) (stating Modifies name (bookOf (now (book .entry)))) ⌝ }
     ensures room { λ r. ⌜ made r (λ _. full ≡ false) ⌝ }
 {
     let left = page.left.numbers;

@@ -1,7 +1,9 @@
 ghost use Prim.Native.Nat.{_+_, _≤_};
-ghost use Rattle.book.specs.Rules.{countOf, mostOf, passes, procedureRule, refusal, valuesRule};
+ghost use Rattle.book.specs.Declare.{accepting};
+ghost use Rattle.book.specs.Rules.{countOf, mostOf, passes, procedureRule, valuesRule};
 ghost use Rattle.page.specs.Pages.{Whole, shown};
 ghost use Rattle.records.specs.Held.{Counted, bookOf};
+ghost use Rattle.records.specs.declared.lists.DeclarationKind.the-variants.{Procedure};
 ghost use Rattle.std.specs.Vec.{made};
 ghost use mathlib.Core.Bool.{false};
 ghost use mathlib.Core.Path.{_≡_};
@@ -48,9 +50,9 @@ pub(crate) fn check_values(
     kind: DeclarationKind,
     name: u32,
     page: Page,
-) -> Result<(), Cause>
+) -> Result<usize, Cause>
     requires { ⌜ Counted (now book) ⌝ ∗ ⌜ Whole page ⌝ }
-    ensures is { λ r. ⌜ refusal r ≡ valuesRule kind name (shown (page .entry)) full (bookOf (now (book .entry))) ⌝ }
+    ensures is { λ r. ⌜ r ≡ accepting (valuesRule kind name (shown (page .entry)) full (bookOf (now (book .entry)))) (countOf kind (bookOf (now (book .entry)))) ⌝ }
     ensures room { λ r. ⌜ made r (λ _. full ≡ false) ⌝ }
 {
     let left = page.left.numbers;
@@ -59,7 +61,8 @@ pub(crate) fn check_values(
     refuse_entry(Ground::Naming, left, leading_names(left))?;
     refuse_call(is_passed(book, kind, count) || full, Ground::Limit)?;
     refuse_entry(Ground::Taken, left, NameGroup::Values.leading_fresh(book, left))?;
-    refuse_entry(Ground::UnknownType, left, leading_types(page.right.numbers))
+    refuse_entry(Ground::UnknownType, left, leading_types(page.right.numbers))?;
+    Ok(count_of(book, kind))
 }
 
 /// The rule for a procedure.
@@ -68,9 +71,9 @@ pub(crate) fn check_procedure(
     full: bool,
     name: u32,
     page: Page,
-) -> Result<(), Cause>
+) -> Result<usize, Cause>
     requires { ⌜ Counted (now book) ⌝ }
-    ensures is { λ r. ⌜ refusal r ≡ procedureRule name (shown (page .entry)) full (bookOf (now (book .entry))) ⌝ }
+    ensures is { λ r. ⌜ r ≡ accepting (procedureRule name (shown (page .entry)) full (bookOf (now (book .entry)))) (countOf Procedure (bookOf (now (book .entry)))) ⌝ }
     ensures room { λ r. ⌜ made r (λ _. full ≡ false) ⌝ }
 {
     let left = page.left.numbers;
@@ -79,5 +82,6 @@ pub(crate) fn check_procedure(
     refuse_call(is_passed(book, DeclarationKind::Procedure, 1) || full, Ground::Limit)?;
     refuse_call(book.find_procedure(name).is_some(), Ground::Taken)?;
     refuse_entry(Ground::Taken, left, NameGroup::Nothing.leading_fresh(book, left))?;
-    refuse_entry(Ground::UnknownType, left, leading_types(page.right.numbers))
+    refuse_entry(Ground::UnknownType, left, leading_types(page.right.numbers))?;
+    Ok(count_of(book, DeclarationKind::Procedure))
 }
