@@ -22,6 +22,8 @@ use Rattle.records.specs.declared.lists.DeclarationKind.the-variants.{Constants
 use Rattle.records.specs.Book.{Book, Numbered, clausesOf, procedureNamed}
 use Rattle.records.specs.Held.{Stored, heldIn}
 use Rattle.book.specs.declared.clauses.Stating.{Stating}
+use Rattle.book.specs.declared.states.Open.{Open}
+use Rattle.book.specs.declared.states.Settled.{Settled}
 use Rattle.book.specs.Rules.{axiomRule, conditionRule, countOf, modifiesRule, procedureRule, statedFor, valuesRule}
 
 -- What a call ends with: its answer, the counts of the book, and the contents of the lists.
@@ -143,6 +145,14 @@ declaredPage kind name n st p =
 -- Declare.
 abbrev pub declared : ℕ → ℕ → List ℕ → Counts → Stored → Ended
 declared kind name numbers n st = elim (pageOf numbers) [ Some p ↦ declaredPage kind name n st p | None ↦ refused (Call Form) n st ]
+
+-- A new book.
+abbrev pub newBook : Open
+newBook = record { counts = record { declarations = 0; clauses = 0; entries = 0 } }
+
+-- Settle closes the book, and changes nothing else.
+abbrev pub settled : Open → Settled
+settled b = record { counts = b .counts }
 
 -- What the adding half of a declaration, or of a clause, needs.
 pub record DeclarationRoom (n : Counts) (st : Stored) (p : Sheet) : Type 0 where

@@ -1,7 +1,9 @@
-ghost use Rattle.book.specs.Declare.{ClauseRoom, DeclarationRoom, Ended, axiomVerdict, clauseEnded, conditionVerdict, declarationEnded, declared, modifiesVerdict, noClauseLeft, noDeclarationLeft, overfull, procedureVerdict, valuesVerdict};
+ghost use Rattle.book.specs.Declare.{ClauseRoom, DeclarationRoom, Ended, axiomVerdict, clauseEnded, conditionVerdict, declarationEnded, declared, modifiesVerdict, newBook, noClauseLeft, noDeclarationLeft, overfull, procedureVerdict, settled, valuesVerdict};
 ghost use Rattle.book.specs.Conditions.{IsCondition};
 ghost use Rattle.page.specs.Pages.{Whole, shown};
 ghost use Rattle.records.specs.Held.{Same, stored};
+ghost use Rattle.records.specs.declared.lists.ClauseKind.the-variants.{Axiom, Modifies};
+ghost use Rattle.records.specs.declared.lists.DeclarationKind.the-variants.{Procedure};
 ghost use Rattle.std.specs.Vec.{made};
 ghost use mathlib.Core.Path.{_≡_};
 use crate::add::add_clause;
@@ -139,4 +141,186 @@ fn judge_modifies(lists: &Lists, counts: Counts, name: u32, page: Page) -> Resul
     };
     let full = lacks_clause(lists, counts, page);
     check_modifies(&book, full, name, page)
+}
+
+impl Open {
+    /// A book in which nothing is declared.
+    pub fn new() -> Open
+        ensures { λ r. ⌜ r ≡ newBook ⌝ }
+    {
+        Open {
+            counts: Counts {
+                declarations: 0,
+                clauses: 0,
+                entries: 0,
+            },
+        }
+    }
+
+    /// Takes a declaration that was judged.
+    fn take_declaration(
+        &mut self,
+        lists: &mut Lists,
+        kind: DeclarationKind,
+        name: u32,
+        page: Page,
+        verdict: Result<usize, Cause>,
+    ) -> Result<usize, Fault>
+        requires { ⌜ Whole page ⌝ ∗ ⌜ made verdict (λ _. DeclarationRoom (now self .counts) (stored (now lists)) (shown page)) ⌝ }
+        ensures does { λ r. ⌜ record { answer = r; counts = now (self .exit) .counts; lists = stored (now (lists .exit)) } ≡ declarationEnded kind name (shown (page .entry)) (now (self .entry) .counts) (stored (now (lists .entry))) verdict ⌝ }
+        ensures lent { λ _. ⌜ Same (now (lists .entry)) (now (lists .exit)) ⌝ }
+    {
+        match verdict {
+            Ok(number) => {
+                add_declaration(lists, self.counts, kind, name, page);
+                self.counts.declarations += 1;
+                self.counts.entries += page.a + page.b;
+                Ok(number)
+            }
+            Err(cause) => Err(Fault { block: 0, cause }),
+        }
+    }
+
+    /// Takes a clause that was judged.
+    fn take_clause(
+        &mut self,
+        lists: &mut Lists,
+        kind: ClauseKind,
+        page: Page,
+        verdict: Result<Stating, Cause>,
+    ) -> Result<usize, Fault>
+        requires { ⌜ Whole page ⌝ ∗ ⌜ made verdict (λ _. ClauseRoom (now self .counts) (stored (now lists)) (shown page)) ⌝ }
+        ensures does { λ r. ⌜ record { answer = r; counts = now (self .exit) .counts; lists = stored (now (lists .exit)) } ≡ clauseEnded kind (shown (page .entry)) (now (self .entry) .counts) (stored (now (lists .entry))) verdict ⌝ }
+        ensures lent { λ _. ⌜ Same (now (lists .entry)) (now (lists .exit)) ⌝ }
+    {
+        match verdict {
+            Ok(stating) => {
+                add_clause(lists, self.counts, kind, stating.procedure, page);
+                self.counts.clauses += 1;
+                self.counts.entries += page.a + page.b;
+                Ok(stating.number)
+            }
+            Err(cause) => Err(Fault { block: 0, cause }),
+        }
+    }
+
+    /// Constants or globals.
+    fn declare_values(
+        &mut self,
+        lists: &mut Lists,
+        kind: DeclarationKind,
+        name: u32,
+        page: Page,
+    ) -> Result<usize, Fault>
+        requires { ⌜ Whole page ⌝ }
+        ensures does { λ r. ⌜ record { answer = r; counts = now (self .exit) .counts; lists = stored (now (lists .exit)) } ≡ declarationEnded kind 0 (shown (page .entry)) (now (self .entry) .counts) (stored (now (lists .entry))) (valuesVerdict kind name (shown (page .entry)) (now (self .entry) .counts) (stored (now (lists .entry)))) ⌝ }
+        ensures lent { λ _. ⌜ Same (now (lists .entry)) (now (lists .exit)) ⌝ }
+    {
+        let verdict = judge_values(lists, self.counts, kind, name, page);
+        self.take_declaration(lists, kind, 0, page, verdict)
+    }
+
+    /// A procedure.
+    fn declare_procedure(
+        &mut self,
+        lists: &mut Lists,
+        name: u32,
+        page: Page,
+    ) -> Result<usize, Fault>
+        requires { ⌜ Whole page ⌝ }
+        ensures does { λ r. ⌜ record { answer = r; counts = now (self .exit) .counts; lists = stored (now (lists .exit)) } ≡ declarationEnded Procedure name (shown (page .entry)) (now (self .entry) .counts) (stored (now (lists .entry))) (procedureVerdict name (shown (page .entry)) (now (self .entry) .counts) (stored (now (lists .entry)))) ⌝ }
+        ensures lent { λ _. ⌜ Same (now (lists .entry)) (now (lists .exit)) ⌝ }
+    {
+        let verdict = judge_procedure(lists, self.counts, name, page);
+        self.take_declaration(lists, DeclarationKind::Procedure, name, page, verdict)
+    }
+
+    /// An axiom.
+    fn declare_axiom(
+        &mut self,
+        lists: &mut Lists,
+        name: u32,
+        page: Page,
+    ) -> Result<usize, Fault>
+        requires { ⌜ Whole page ⌝ }
+        ensures does { λ r. ⌜ record { answer = r; counts = now (self .exit) .counts; lists = stored (now (lists .exit)) } ≡ clauseEnded Axiom (shown (page .entry)) (now (self .entry) .counts) (stored (now (lists .entry))) (axiomVerdict name (shown (page .entry)) (now (self .entry) .counts) (stored (now (lists .entry)))) ⌝ }
+        ensures lent { λ _. ⌜ Same (now (lists .entry)) (now (lists .exit)) ⌝ }
+    {
+        let verdict = judge_axiom(lists, self.counts, name, page);
+        self.take_clause(lists, ClauseKind::Axiom, page, verdict)
+    }
+
+    /// A requires or an ensures clause.
+    fn declare_condition(
+        &mut self,
+        lists: &mut Lists,
+        kind: ClauseKind,
+        name: u32,
+        page: Page,
+    ) -> Result<usize, Fault>
+        requires { ⌜ IsCondition kind ⌝ ∗ ⌜ Whole page ⌝ }
+        ensures does { λ r. ⌜ record { answer = r; counts = now (self .exit) .counts; lists = stored (now (lists .exit)) } ≡ clauseEnded kind (shown (page .entry)) (now (self .entry) .counts) (stored (now (lists .entry))) (conditionVerdict kind name (shown (page .entry)) (now (self .entry) .counts) (stored (now (lists .entry)))) ⌝ }
+        ensures lent { λ _. ⌜ Same (now (lists .entry)) (now (lists .exit)) ⌝ }
+    {
+        let verdict = judge_condition(lists, self.counts, kind, name, page);
+        self.take_clause(lists, kind, page, verdict)
+    }
+
+    /// A modifies clause.
+    fn declare_modifies(
+        &mut self,
+        lists: &mut Lists,
+        name: u32,
+        page: Page,
+    ) -> Result<usize, Fault>
+        requires { ⌜ Whole page ⌝ }
+        ensures does { λ r. ⌜ record { answer = r; counts = now (self .exit) .counts; lists = stored (now (lists .exit)) } ≡ clauseEnded Modifies (shown (page .entry)) (now (self .entry) .counts) (stored (now (lists .entry))) (modifiesVerdict name (shown (page .entry)) (now (self .entry) .counts) (stored (now (lists .entry)))) ⌝ }
+        ensures lent { λ _. ⌜ Same (now (lists .entry)) (now (lists .exit)) ⌝ }
+    {
+        let verdict = judge_modifies(lists, self.counts, name, page);
+        self.take_clause(lists, ClauseKind::Modifies, page, verdict)
+    }
+
+    /// Declares what the kind, the name and the page say, or refuses it and leaves all as it was.
+    ///
+    /// Kinds: 3 constants, 4 globals, 6 a procedure, 7 an axiom, 8 a requires, 9 an ensures and 10 a modifies clause.
+    /// The answer is the number of the first thing added, or the clause's number among those of its kind and procedure.
+    pub fn declare(
+        &mut self,
+        lists: &mut Lists,
+        kind: u32,
+        name: u32,
+        numbers: &[u32],
+    ) -> Result<usize, Fault>
+        ensures does { λ r. ⌜ record { answer = r; counts = now (self .exit) .counts; lists = stored (now (lists .exit)) } ≡ declared kind name (now (numbers .entry)) (now (self .entry) .counts) (stored (now (lists .entry))) ⌝ }
+        ensures lent { λ _. ⌜ Same (now (lists .entry)) (now (lists .exit)) ⌝ }
+    {
+        let Some(page) = Page::read(numbers) else {
+            return Err(Fault {
+                block: 0,
+                cause: Cause::Call(Ground::Form),
+            });
+        };
+        match kind {
+            3 => self.declare_values(lists, DeclarationKind::Constants, name, page),
+            4 => self.declare_values(lists, DeclarationKind::Globals, name, page),
+            6 => self.declare_procedure(lists, name, page),
+            7 => self.declare_axiom(lists, name, page),
+            8 => self.declare_condition(lists, ClauseKind::Requires, name, page),
+            9 => self.declare_condition(lists, ClauseKind::Ensures, name, page),
+            10 => self.declare_modifies(lists, name, page),
+            _ => Err(Fault {
+                block: 0,
+                cause: Cause::Call(Ground::Form),
+            }),
+        }
+    }
+
+    /// Closes the book to declarations.
+    pub fn settle(self) -> Settled
+        ensures { λ r. ⌜ r ≡ settled self ⌝ }
+    {
+        let Open { counts } = self;
+        Settled { counts }
+    }
 }
