@@ -3,7 +3,6 @@ ghost use Rattle.book.specs.Conditions.{IsCondition};
 ghost use Rattle.book.specs.Declare.{accepting, stating};
 ghost use Rattle.book.specs.NameGroups.{namesIn};
 ghost use Rattle.book.specs.Rules.{axiomRule, conditionRule, modifiedSoFar, modifiesRule, nobody, scopeFor, statedFor};
-
 ghost use Rattle.expression.specs.Scopes.{scopeOf};
 ghost use Rattle.language.specs.Checking.{checked};
 ghost use Rattle.page.specs.Pages.{entriesOf, shown};
@@ -172,14 +171,26 @@ pub(crate) fn check_modifies(
 {
     let left = page.left.numbers;
     refuse_call(!is_name(name), Ground::Naming)?;
-    refuse_entry(Ground::Naming, left, leading_bare_names(left, page.right.numbers))?;
+    refuse_entry(
+        Ground::Naming,
+        left,
+        leading_bare_names(left, page.right.numbers),
+    )?;
     refuse_call(full, Ground::Limit)?;
     let found = book.find_procedure(name);
-    refuse_entry(Ground::Taken, left, modified_so_far(found).leading_fresh(book, left))?;
+    refuse_entry(
+        Ground::Taken,
+        left,
+        modified_so_far(found).leading_fresh(book, left),
+    )?;
     let Some(procedure) = found else {
         return Err(Cause::Call(Ground::UnknownProcedure));
     };
-    refuse_entry(Ground::NotUsable, left, NameGroup::Globals.leading_members(book, left))?;
+    refuse_entry(
+        Ground::NotUsable,
+        left,
+        NameGroup::Globals.leading_members(book, left),
+    )?;
     Ok(Stating {
         procedure: procedure.number as u32,
         number: count_for(book, ClauseKind::Modifies, found),

@@ -236,12 +236,7 @@ impl Open {
     }
 
     /// An axiom.
-    fn declare_axiom(
-        &mut self,
-        lists: &mut Lists,
-        name: u32,
-        page: Page,
-    ) -> Result<usize, Fault>
+    fn declare_axiom(&mut self, lists: &mut Lists, name: u32, page: Page) -> Result<usize, Fault>
         requires { ⌜ Whole page ⌝ }
         ensures does { λ r. ⌜ record { answer = r; counts = now (self .exit) .counts; lists = stored (now (lists .exit)) } ≡ clauseEnded Axiom (shown (page .entry)) (now (self .entry) .counts) (stored (now (lists .entry))) (axiomVerdict name (shown (page .entry)) (now (self .entry) .counts) (stored (now (lists .entry)))) ⌝ }
         ensures lent { λ _. ⌜ Same (now (lists .entry)) (now (lists .exit)) ⌝ }
@@ -267,12 +262,7 @@ impl Open {
     }
 
     /// A modifies clause.
-    fn declare_modifies(
-        &mut self,
-        lists: &mut Lists,
-        name: u32,
-        page: Page,
-    ) -> Result<usize, Fault>
+    fn declare_modifies(&mut self, lists: &mut Lists, name: u32, page: Page) -> Result<usize, Fault>
         requires { ⌜ Whole page ⌝ }
         ensures does { λ r. ⌜ record { answer = r; counts = now (self .exit) .counts; lists = stored (now (lists .exit)) } ≡ clauseEnded Modifies (shown (page .entry)) (now (self .entry) .counts) (stored (now (lists .entry))) (modifiesVerdict name (shown (page .entry)) (now (self .entry) .counts) (stored (now (lists .entry)))) ⌝ }
         ensures lent { λ _. ⌜ Same (now (lists .entry)) (now (lists .exit)) ⌝ }

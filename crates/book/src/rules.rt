@@ -60,7 +60,11 @@ pub(crate) fn check_values(
     refuse_call(name != 0, Ground::Naming)?;
     refuse_entry(Ground::Naming, left, leading_names(left))?;
     refuse_call(is_passed(book, kind, count) || full, Ground::Limit)?;
-    refuse_entry(Ground::Taken, left, NameGroup::Values.leading_fresh(book, left))?;
+    refuse_entry(
+        Ground::Taken,
+        left,
+        NameGroup::Values.leading_fresh(book, left),
+    )?;
     refuse_entry(Ground::UnknownType, left, leading_types(page.right.numbers))?;
     Ok(count_of(book, kind))
 }
@@ -79,9 +83,16 @@ pub(crate) fn check_procedure(
     let left = page.left.numbers;
     refuse_call(!is_name(name), Ground::Naming)?;
     refuse_entry(Ground::Naming, left, leading_names(left))?;
-    refuse_call(is_passed(book, DeclarationKind::Procedure, 1) || full, Ground::Limit)?;
+    refuse_call(
+        is_passed(book, DeclarationKind::Procedure, 1) || full,
+        Ground::Limit,
+    )?;
     refuse_call(book.find_procedure(name).is_some(), Ground::Taken)?;
-    refuse_entry(Ground::Taken, left, NameGroup::Nothing.leading_fresh(book, left))?;
+    refuse_entry(
+        Ground::Taken,
+        left,
+        NameGroup::Nothing.leading_fresh(book, left),
+    )?;
     refuse_entry(Ground::UnknownType, left, leading_types(page.right.numbers))?;
     Ok(count_of(book, DeclarationKind::Procedure))
 }

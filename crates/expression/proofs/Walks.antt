@@ -34,7 +34,7 @@ module _ (sc : Scope) (ls rs : List ℕ) (i : ℕ) (ws : List ValueType) (whole 
   step =
       let n = length-paired ls rs in
       sym (at-drop-more (λ es. afterEntries sc i es ws) (paired ls rs) i noEntry (omega arith)
-        ∙ ap (λ e. afterEntries sc i (e ∷ drop (i + 1) (paired ls rs)) ws) (getD-paired ls rs i noEntry h k))
+      ∙ ap (λ e. afterEntries sc i (e ∷ drop (i + 1) (paired ls rs)) ws) (getD-paired ls rs i noEntry h k))
       ∙ inv
 
   pub walk-stops : (g : Ground) → Err g ≡ afterEntry sc (entry (getD ls i 0) (getD rs i 0)) ws → Err (AtEntry g (At i (getD ls i 0))) ≡ whole

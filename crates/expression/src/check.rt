@@ -99,7 +99,11 @@ fn check_entry(scope: &Scope, entry: Entry, waiting: &mut Holder<ValueType>) -> 
         5 => wait_for(waiting, scope.find(entry.right), Ground::NotUsable),
         8 if scope.olds => wait_for(waiting, scope.find_old(entry.right), Ground::NotUsable),
         _ if entry.right != 0 => Err(Ground::Code),
-        1..=3 => wait_for(waiting, result_type(entry.left, Operands::None), Ground::Code),
+        1..=3 => wait_for(
+            waiting,
+            result_type(entry.left, Operands::None),
+            Ground::Code,
+        ),
         12..=13 => on_one(entry.left, waiting),
         14..=29 => on_two(entry.left, waiting),
         _ => Err(Ground::Code),

@@ -17,8 +17,8 @@ module _ {A : Type 0} (xs : List A) where
   within : (used : ℕ) → take used xs ≡ take (min used (length xs)) xs
   within used =
       elim (cases-lt used (length xs)) [
-        inl h ↦ let e : min used (length xs) ≡ used = omega arith in ap (λ n. take n xs) (sym e)
-      | inr h ↦ let l : length xs ≤ min used (length xs) = omega arith in take-all used xs h ∙ sym (take-all (min used (length xs)) xs l)
+        | inl h ↦ let e : min used (length xs) ≡ used = omega arith in ap (λ n. take n xs) (sym e)
+        | inr h ↦ let l : length xs ≤ min used (length xs) = omega arith in take-all used xs h ∙ sym (take-all (min used (length xs)) xs l)
       ]
 
   pub waits-none : (used count : ℕ) → count ≡ min used (length xs) → count ≡ 0 → reverse (take used xs) ≡ []

@@ -10,8 +10,11 @@ pub struct ValueType {
 
 impl ValueType {
     pub const BOOL: ValueType = ValueType { number: 1 };
+
     pub const INT: ValueType = ValueType { number: 2 };
+
     pub const REF: ValueType = ValueType { number: 3 };
+
     pub const NAME: ValueType = ValueType { number: 4 };
 
     /// Are these the same type?

@@ -31,14 +31,14 @@ pub part-is : {X : Type 0} (xs : List X) (start count from to : ℕ) → from �
     → take (to - from) (drop from xs) ≡ take count (drop start xs)
 part-is xs start count from to f t =
     elim (cases-lt (start + count) (length xs)) [
-      inl h ↦
-        let g : from ≡ start = omega arith in
-        let n : to - from ≡ count = omega arith in
-        ap (λ (k : ℕ). take (to - from) (drop k xs)) g ∙ ap (λ (k : ℕ). take k (drop start xs)) n
-    | inr h ↦
-        let l = length-drop from xs in
-        let m = length-drop start xs in
-        take-all (to - from) (drop from xs) (omega arith) ∙ same (cases-lt start (length xs)) ∙ sym (take-all count (drop start xs) (omega arith))
+      | inl h ↦
+          let g : from ≡ start = omega arith in
+          let n : to - from ≡ count = omega arith in
+          ap (λ (k : ℕ). take (to - from) (drop k xs)) g ∙ ap (λ (k : ℕ). take k (drop start xs)) n
+      | inr h ↦
+          let l = length-drop from xs in
+          let m = length-drop start xs in
+          take-all (to - from) (drop from xs) (omega arith) ∙ same (cases-lt start (length xs)) ∙ sym (take-all count (drop start xs) (omega arith))
     ]
   where
     same : (start < length xs) ⊎ (length xs ≤ start) → drop from xs ≡ drop start xs

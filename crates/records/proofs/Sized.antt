@@ -101,14 +101,15 @@ module _ (es : List Entry) (cs : List Clause) (ds : List Declaration) where
   -- Those totals are the book's, and within the limits.
   pub counts : (t : Totals) → Some t ≡ surveyed (length es) none ds
       → (t .constants ≡ length (constants (bookIn these))) × (t .globals ≡ length (globals (bookIn these))) × (t .procedures ≡ length (procedures (bookIn these)))
-        × (t .constants ≤ 256) × (t .globals ≤ 64) × (t .procedures ≤ 64)
+      × (t .constants ≤ 256) × (t .globals ≤ 64) × (t .procedures ≤ 64)
   counts t e =
       let s = surveys t e in
       let p = and-parts (declarationsFit (length es) ds) (few (adding none ds)) (s .fits) in
-      let f = few-few t (sym (ap few (s .totals) ∙ p .1)) in
-      (
+      let f = few-few t (sym (ap few (s .totals) ∙ p .1)) in (
         ap (λ (u : Totals). u .constants) (s .totals) ∙ zero-add (sizeOf Constants ds) ∙ sym (length-declaredAs es Constants ds (p .0)),
         ap (λ (u : Totals). u .globals) (s .totals) ∙ zero-add (sizeOf Globals ds) ∙ sym (length-declaredAs es Globals ds (p .0)),
         count-is t s ∙ sym (length-proceduresIn es ds),
-        f .constants, f .globals, f .procedures,
+        f .constants,
+        f .globals,
+        f .procedures,
       )

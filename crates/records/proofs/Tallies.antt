@@ -66,8 +66,8 @@ tallied-more tally cs c t n r kind p h =
     let b = row-below (c .kind) (c .procedure) r in
     let old = t kind p h in
     elim (cases-eq (rowOf kind p) (rowOf (c .kind) (c .procedure))) [
-      inl i ↦ same i s e b old
-    | inr i ↦ other i s e old
+      | inl i ↦ same i s e b old
+      | inr i ↦ other i s e old
     ]
   where
     same : rowOf kind p ≡ rowOf (c .kind) (c .procedure) → eqb (rowOf (c .kind) (c .procedure)) (rowOf kind p) ≡ belongs kind p (c .kind) (c .procedure)
@@ -81,13 +81,14 @@ tallied-more tally cs c t n r kind p h =
         ∙ ap (λ (x : ℕ). x + 1) (ap (λ (x : ℕ). getD tally x 0) (sym i) ∙ old)
         ∙ ap (λ (x : Bool). countOf kind p cs + cond x 1 0) (sym (eq-eqb (rowOf (c .kind) (c .procedure)) (rowOf kind p) (sym i)) ∙ s)
         ∙ sym e
+
     other : (rowOf kind p ≡ rowOf (c .kind) (c .procedure) → ⊥) → eqb (rowOf (c .kind) (c .procedure)) (rowOf kind p) ≡ belongs kind p (c .kind) (c .procedure)
         → countOf kind p (cs ++ (c ∷ [])) ≡ countOf kind p cs + cond (belongs kind p (c .kind) (c .procedure)) 1 0
         → getD tally (rowOf kind p) 0 ≡ countOf kind p cs
         → getD (set tally (rowOf (c .kind) (c .procedure)) (getD tally (rowOf (c .kind) (c .procedure)) 0 + 1)) (rowOf kind p) 0 ≡ countOf kind p (cs ++ (c ∷ []))
     other i s e old =
         let w : _≡_ {A = ℕ} (cond (belongs kind p (c .kind) (c .procedure)) 1 0) 0 =
-            ap (λ (x : Bool). cond x 1 0) (sym s ∙ ne-eqb (rowOf (c .kind) (c .procedure)) (rowOf kind p) (λ j. i (sym j))) in
+        ap (λ (x : Bool). cond x 1 0) (sym s ∙ ne-eqb (rowOf (c .kind) (c .procedure)) (rowOf kind p) (λ j. i (sym j))) in
         getD-set-other tally (rowOf (c .kind) (c .procedure)) (rowOf kind p) (getD tally (rowOf (c .kind) (c .procedure)) 0 + 1) 0 i
         ∙ old ∙ omega (arith, e, w)
 
@@ -140,7 +141,7 @@ module _ (count procedures : ℕ) (cs : List Clause) (i : ℕ) (whole : Bool) (i
     where
       more : isFull (here .kind) (countOf (here .kind) (here .procedure) (take i cs)) ≡ false
           → clausesFit count procedures (take i cs ++ (here ∷ [])) (drop (i + 1) cs)
-            ≡ (clauseFits count procedures (take i cs) here && clausesFit count procedures (take i cs ++ (here ∷ [])) (drop (i + 1) cs))
+          ≡ (clauseFits count procedures (take i cs) here && clausesFit count procedures (take i cs ++ (here ∷ [])) (drop (i + 1) cs))
       more n = grind (arith, tells)
 
   pub fit-all : length cs ≤ i → true ≡ whole

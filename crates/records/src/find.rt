@@ -109,7 +109,11 @@ impl<'a> HeldBook<'a> {
         part(
             self.entries,
             start,
-            if clause.belongs_to(ClauseKind::Modifies, procedure) { count } else { 0 },
+            if clause.belongs_to(ClauseKind::Modifies, procedure) {
+                count
+            } else {
+                0
+            },
         )
     }
 

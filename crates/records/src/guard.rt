@@ -1,6 +1,5 @@
 ghost use Prim.Native.Nat.{_+_, _<_, _≤_};
 ghost use Rattle.records.specs.Held.{Counted, clausesFit, countOf, heldIn, isFull, bookOf, declarationFits, soundBook, stored};
-
 ghost use Rattle.records.specs.Sizes.{Few, counting, few, hasRow, lies, none, rowOf, surveyed};
 ghost use Rattle.std.specs.Options.{mapped};
 ghost use Rattle.std.specs.Slices.{found};
@@ -166,7 +165,10 @@ pub fn held<'a>(lists: &'a Lists, counts: Counts) -> Option<HeldBook<'a>>
     let declared = counts.declarations;
     let stated = counts.clauses;
     let used = counts.entries as usize;
-    if lists.declarations.len() < declared || lists.clauses.len() < stated || lists.entries.len() < used {
+    if lists.declarations.len() < declared
+        || lists.clauses.len() < stated
+        || lists.entries.len() < used
+    {
         return None;
     }
     sound_book(

@@ -12,4 +12,4 @@ abbrev pub Inv-loop-i : given.InvT-loop-i
 Inv-loop-i l =
     (room (held (l .waiting)) ≡ 1024)
     × (afterEntries (scopeOf (l .scope)) (l .i) (drop (l .i) (paired (l .left) (l .right))) (waits (held (l .waiting)))
-        ≡ afterEntries (scopeOf (l .scope)) 0 (paired (l .left) (l .right)) [])
+    ≡ afterEntries (scopeOf (l .scope)) 0 (paired (l .left) (l .right)) [])

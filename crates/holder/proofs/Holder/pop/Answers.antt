@@ -14,7 +14,7 @@ returns-then-count-eq0 g c =
     record {
       does =
           sym (ap (poppedFrom (held (c .args .self .now)))
-              (waits-none (c .args .self .now .places .now) (c .args .self .now .used) (c .min-count .result) (omega arith) (omega arith)));
+          (waits-none (c .args .self .now .places .now) (c .args .self .now .used) (c .min-count .result) (omega arith) (omega arith)));
       stacks = waits-none (c .args .self .now .places .now) (c .args .self .now .used) (c .min-count .result) (omega arith) (omega arith);
       room = search needs;
       lent = search needs;

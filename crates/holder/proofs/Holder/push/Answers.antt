@@ -8,5 +8,5 @@ returns-then-at-self g c =
     record { does = search needs; stacks = search needs; room = search needs; lent = search needs }
 
 pub returns : need.returns
-returns g c = 
+returns g c =
     record { does = search needs; stacks = search (needs, waits-push, length-waits); room = search needs; lent = search needs }

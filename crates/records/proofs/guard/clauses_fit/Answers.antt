@@ -22,30 +22,29 @@ returns-then-is-full c =
     fit-full (c .args .count) (c .args .procedures) (c .args .clauses .now) (c .loop-clause .clause-index) _ (c .loop-clause .inv .2)
     (c .loop-clause-test .taken) (getD (c .loop-clause .tally) (c .row-row .result) 0)
     (row-counts (c .loop-clause .tally) (take (c .loop-clause .clause-index) (c .args .clauses .now)) (getD (c .args .clauses .now) (c .loop-clause .clause-index) noClause) (c .row-row .result)
-      (c .loop-clause .inv .0)
-      (lies-row (c .args .count) (c .args .procedures) (getD (c .args .clauses .now) (c .loop-clause .clause-index) noClause) (c .pre) (c .if-not-lies .ensures tt))
-      (c .row-row .ensures .is))
+    (c .loop-clause .inv .0)
+    (lies-row (c .args .count) (c .args .procedures) (getD (c .args .clauses .now) (c .loop-clause .clause-index) noClause) (c .pre) (c .if-not-lies .ensures tt))
+    (c .row-row .ensures .is))
     (c .if-is-full .ensures tt)
 
 pub add-tally : need.add-tally
 add-tally c =
     let here = getD (c .args .clauses .now) (c .loop-clause .clause-index) noClause in
     let e = row-counts (c .loop-clause .tally) (take (c .loop-clause .clause-index) (c .args .clauses .now)) here (c .row-row .result)
-            (c .loop-clause .inv .0) (lies-row (c .args .count) (c .args .procedures) here (c .pre) (c .if-not-lies .ensures tt)) (c .row-row .ensures .is) in
+    (c .loop-clause .inv .0) (lies-row (c .args .count) (c .args .procedures) here (c .pre) (c .if-not-lies .ensures tt)) (c .row-row .ensures .is) in
     let n = count-below (here .kind) (here .procedure) (c .args .clauses .now) (c .loop-clause .clause-index) (omega arith) in
     omega (arith, e, n)
 
 pub loop-clause-again : need.loop-clause-again
 loop-clause-again c =
     let here = getD (c .args .clauses .now) (c .loop-clause .clause-index) noClause in
-    let r = lies-row (c .args .count) (c .args .procedures) here (c .pre) (c .if-not-lies .ensures tt) in
-    (
+    let r = lies-row (c .args .count) (c .args .procedures) here (c .pre) (c .if-not-lies .ensures tt) in (
       tallied-at (c .loop-clause .tally) (c .args .clauses .now) (c .loop-clause .clause-index) (c .row-row .result) (c .loop-clause-test .taken) (c .loop-clause .inv .0) (c .loop-clause .inv .1) r (c .row-row .ensures .is),
       length-set (c .loop-clause .tally) (c .row-row .result) _ ∙ c .loop-clause .inv .1,
       fit-more (c .args .count) (c .args .procedures) (c .args .clauses .now) (c .loop-clause .clause-index) _ (c .loop-clause .inv .2)
-      (c .loop-clause-test .taken) (getD (c .loop-clause .tally) (c .row-row .result) 0)
-      (row-counts (c .loop-clause .tally) (take (c .loop-clause .clause-index) (c .args .clauses .now)) here (c .row-row .result) (c .loop-clause .inv .0) r (c .row-row .ensures .is))
-      (c .if-is-full .ensures tt) (c .if-not-lies .ensures tt),
+          (c .loop-clause-test .taken) (getD (c .loop-clause .tally) (c .row-row .result) 0)
+          (row-counts (c .loop-clause .tally) (take (c .loop-clause .clause-index) (c .args .clauses .now)) here (c .row-row .result) (c .loop-clause .inv .0) r (c .row-row .ensures .is))
+          (c .if-is-full .ensures tt) (c .if-not-lies .ensures tt),
     )
 
 pub returns : need.returns

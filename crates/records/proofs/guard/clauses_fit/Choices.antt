@@ -10,4 +10,4 @@ Inv-loop-clause l =
     Tallied (l .tally) (take (l .clause-index) (l .clauses))
     × (length (l .tally) ≡ 193)
     × (clausesFit (l .count) (l .procedures) (take (l .clause-index) (l .clauses)) (drop (l .clause-index) (l .clauses))
-        ≡ clausesFit (l .count) (l .procedures) [] (l .clauses))
+    ≡ clausesFit (l .count) (l .procedures) [] (l .clauses))

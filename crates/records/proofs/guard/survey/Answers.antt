@@ -15,7 +15,7 @@ pub loop-d-again : need.loop-d-again
 loop-d-again c = (
   few-few (c .counting-totals .result) (c .if-not-are-few .ensures tt),
   survey-more (c .args .count) (c .args .declarations .now) (c .loop-d .d-index) (c .loop-d .totals) _ (c .loop-d .inv .1)
-  (c .loop-d-test .taken) (c .counting-totals .result) (c .counting-totals .ensures) (c .if-not-fits .ensures tt),
+      (c .loop-d-test .taken) (c .counting-totals .result) (c .counting-totals .ensures) (c .if-not-fits .ensures tt),
 )
 
 pub returns : need.returns

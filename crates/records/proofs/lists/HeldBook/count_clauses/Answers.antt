@@ -11,15 +11,15 @@ use Rattle.records.proofs.lists.HeldBook.count_clauses.Needs.{then-belongs-to,
 pub loop-clause-again : need.loop-clause-again
 loop-clause-again c =
     elim (c .if-belongs-to .came) [
-      then-belongs-to w ↦ (
+      | then-belongs-to w ↦ (
         omega (arith, w .count-is, c .loop-clause .inv .0),
         count-yes (c .args .kind) (c .args .procedure) (c .args .self .now .entries .now) (c .args .self .now .clauses .now) (c .loop-clause .clause-index) (c .loop-clause .count) _
-        (c .loop-clause .inv .1) (c .loop-clause-test .taken) (w .if-belongs-to .ensures tt) (c .if-belongs-to .count) (w .count-is),
+            (c .loop-clause .inv .1) (c .loop-clause-test .taken) (w .if-belongs-to .ensures tt) (c .if-belongs-to .count) (w .count-is),
       )
-    | else-belongs-to w ↦ (
+      | else-belongs-to w ↦ (
         omega (arith, w .count-is, c .loop-clause .inv .0),
         count-no (c .args .kind) (c .args .procedure) (c .args .self .now .entries .now) (c .args .self .now .clauses .now) (c .loop-clause .clause-index) (c .loop-clause .count) _
-        (c .loop-clause .inv .1) (c .loop-clause-test .taken) (w .if-belongs-to .ensures tt) (c .if-belongs-to .count) (w .count-is),
+            (c .loop-clause .inv .1) (c .loop-clause-test .taken) (w .if-belongs-to .ensures tt) (c .if-belongs-to .count) (w .count-is),
       )
     ]
 

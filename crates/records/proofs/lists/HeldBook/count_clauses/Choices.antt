@@ -10,4 +10,4 @@ abbrev pub Inv-loop-clause : given.InvT-loop-clause
 Inv-loop-clause l =
     (l .count ≤ l .clause-index)
     × (l .count + length (statedAs (l .kind) (l .procedure) (map (statedIn (l .self .entries .now)) (drop (l .clause-index) (l .self .clauses .now))))
-        ≡ length (statedAs (l .kind) (l .procedure) (map (statedIn (l .self .entries .now)) (l .self .clauses .now))))
+    ≡ length (statedAs (l .kind) (l .procedure) (map (statedIn (l .self .entries .now)) (l .self .clauses .now))))

@@ -10,4 +10,4 @@ abbrev pub Inv-loop-declaration : given.InvT-loop-declaration
 Inv-loop-declaration l =
     (l .number ≤ l .declaration-index)
     × (numberedFrom (l .number) (l .name) (proceduresIn (map (declaredIn (l .self .entries .now)) (drop (l .declaration-index) (l .self .declarations .now))))
-        ≡ numberedFrom 0 (l .name) (proceduresIn (map (declaredIn (l .self .entries .now)) (l .self .declarations .now))))
+    ≡ numberedFrom 0 (l .name) (proceduresIn (map (declaredIn (l .self .entries .now)) (l .self .declarations .now))))

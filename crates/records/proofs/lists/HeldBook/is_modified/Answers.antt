@@ -11,8 +11,8 @@ pub returns-in-Some : need.returns-in-Some
 returns-in-Some c =
     ap isSome
     (look-found (modifiedBy (c .args .procedure)) (statedIn (c .args .self .now .entries .now)) (c .args .name) (c .args .self .now .clauses .now)
-      (c .loop-clause .clause-index) noClause _ (c .loop-clause .inv) (c .loop-clause-test .taken) (c .in-Some .field-0)
-      (c .in-Some .ensures tt ∙ ap (typeOf (c .args .name)) (c .modified-by .ensures)))
+    (c .loop-clause .clause-index) noClause _ (c .loop-clause .inv) (c .loop-clause-test .taken) (c .in-Some .field-0)
+    (c .in-Some .ensures tt ∙ ap (typeOf (c .args .name)) (c .modified-by .ensures)))
 
 pub loop-clause-again : need.loop-clause-again
 loop-clause-again c =
@@ -24,4 +24,4 @@ pub returns : need.returns
 returns c =
     ap isSome
     (look-all (modifiedBy (c .args .procedure)) (statedIn (c .args .self .now .entries .now)) (c .args .name) (c .args .self .now .clauses .now)
-      (c .loop-clause .clause-index) noClause _ (c .loop-clause .inv) (c .loop-clause-test .left))
+    (c .loop-clause .clause-index) noClause _ (c .loop-clause .inv) (c .loop-clause-test .left))
