@@ -1,5 +1,3 @@
 pub mod Conditions
-pub mod Names
-pub mod NameGroups
-pub mod Rules
 pub mod Declare
+pub mod Rules

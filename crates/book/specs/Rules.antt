@@ -6,15 +6,12 @@ use lib.Dec.{eqb, leb, ltb}
 use lib.ListN.{length, take, getD}
 use Rattle.std.specs.declared.option.Option.{Option}
 use Rattle.std.specs.declared.option.Option.the-variants.{Some, None}
-use Rattle.std.specs.declared.result.Result.{Result}
-use Rattle.std.specs.declared.result.Result.the-variants.{Ok, Err}
 use Rattle.std.specs.Options.{isSome}
 use Rattle.std.specs.shelf.Lists.{leading}
 use Rattle.fault.specs.declared.Cause.{Cause}
-use Rattle.fault.specs.declared.Cause.the-variants.{Call, Entry as AtEntry}
-use Rattle.fault.specs.declared.Ground.{Ground}
+use Rattle.fault.specs.declared.Cause.the-variants.{Call}
 use Rattle.fault.specs.declared.Ground.the-variants.{Form, Lists, Naming, Limit, Taken, UnknownType, UnknownProcedure, NotUsable}
-use Rattle.fault.specs.declared.Place.the-variants.{At}
+use Rattle.fault.specs.Refusals.{onCall, onEntry, refusal}
 use Rattle.page.specs.declared.Entry.{Entry}
 use Rattle.page.specs.Pages.{Sheet, entriesOf}
 use Rattle.language.specs.Checking.{checked}
@@ -26,16 +23,7 @@ use Rattle.records.specs.declared.lists.DeclarationKind.the-variants.{Constants
 use Rattle.records.specs.Book.{Book, Numbered, clausesOf, constants, globals, modified, procedureNamed, procedures, values}
 use Rattle.records.specs.Found.{orElse}
 use Rattle.records.specs.Held.{isFull}
-use Rattle.book.specs.Names.{fresh, has, isBareName, isName, isType}
-
--- A ground on which the whole call is refused, where a test says so.
-abbrev pub onCall : Bool → Ground → Option Cause
-onCall false ground = None
-onCall true ground = Some (Call ground)
-
--- A ground on which entry i is refused, where there is such an entry; the item is its left number.
-abbrev pub onEntry : Ground → List ℕ → ℕ → Option Cause
-onEntry ground left i = cond (ltb i (length left)) (Some (AtEntry ground (At i (getD left i 0)))) None
+use Rattle.names.specs.Names.{fresh, has, isBareName, isName, isType}
 
 abbrev pub lefts : Sheet → List ℕ
 lefts p = p .left .numbers
@@ -75,10 +63,6 @@ procedureRule name p full b =
     (orElse (onCall (isSome (procedureNamed name b)) Taken)
     (orElse (onEntry Taken (lefts p) (fresh [] [] (lefts p)))
     (onEntry UnknownType (lefts p) (leading isType (rights p)))))))
-
-abbrev pub refusal : {A : Type 0} → Result A Cause → Option Cause
-refusal (Ok a) = None
-refusal (Err cause) = Some cause
 
 -- What a clause may speak of: an axiom of constants; a requires clause of in-parameters, globals and constants; an ensures clause of
 -- out-parameters too, and of old globals; a modifies clause of globals.

@@ -2,8 +2,6 @@
 mod add;
 mod clauses;
 mod declare;
-mod names;
-mod refuse;
 mod rules;
 mod states;
 

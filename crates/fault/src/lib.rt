@@ -1,4 +1,6 @@
 //! Refusals: why a call was refused and where, and the four numbers that this gives.
+pub mod refuse;
+
 ghost use Rattle.fault.specs.Faults.{given, numberOf};
 ghost use mathlib.Core.Path.{_≡_};
 

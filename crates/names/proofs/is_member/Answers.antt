@@ -1,8 +1,8 @@
 use native.Mathlib.Omega.{arith}
 use Rattle.std.proofs.shelf.Lists.{at-drop-all, at-drop-more}
 use Rattle.std.proofs.shelf.Ways.{tells}
-use Rattle.book.specs.Names.{member}
-use Rattle.book.proofs.names.is_member.Needs as need
+use Rattle.names.specs.Names.{member}
+use Rattle.names.proofs.is_member.Needs as need
 
 pub returns-then-x-number : need.returns-then-x-number
 returns-then-x-number c = grind (arith, tells, at-drop-more (member (c .args .number)) (c .args .numbers .now) (c .loop-x .x-index) 0)

@@ -1,11 +1,11 @@
-ghost use Rattle.book.specs.Rules.{onCall, onEntry, refusal};
+ghost use Rattle.fault.specs.Refusals.{onCall, onEntry, refusal};
 ghost use mathlib.Core.Path.{_≡_};
-use fault::Cause;
-use fault::Ground;
-use fault::Place;
+use crate::Cause;
+use crate::Ground;
+use crate::Place;
 
 /// Refuses the whole call, where a test says so.
-pub(crate) fn refuse_call(test: bool, ground: Ground) -> Result<(), Cause>
+pub fn refuse_call(test: bool, ground: Ground) -> Result<(), Cause>
     ensures { λ r. ⌜ refusal r ≡ onCall test ground ⌝ }
 {
     if test {
@@ -15,7 +15,7 @@ pub(crate) fn refuse_call(test: bool, ground: Ground) -> Result<(), Cause>
 }
 
 /// Refuses the entry at an index, where there is one.
-pub(crate) fn refuse_entry(ground: Ground, left: &[u32], index: usize) -> Result<(), Cause>
+pub fn refuse_entry(ground: Ground, left: &[u32], index: usize) -> Result<(), Cause>
     ensures { λ r. ⌜ refusal r ≡ onEntry ground (now (left .entry)) index ⌝ }
 {
     if index < left.len() {

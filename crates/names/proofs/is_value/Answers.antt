@@ -2,9 +2,9 @@ use mathlib.Core.Bool.{Bool, _||_}
 use mathlib.Core.Path.{sym, ap, _∙_}
 use Rattle.records.specs.Book.{constants, globals}
 use Rattle.records.specs.Held.{bookOf}
-use Rattle.book.specs.Names.{has}
-use Rattle.book.proofs.Leads.{has-append}
-use Rattle.book.proofs.names.is_value.Needs as need
+use Rattle.names.specs.Names.{has}
+use Rattle.names.proofs.Leads.{has-append}
+use Rattle.names.proofs.is_value.Needs as need
 
 pub returns-then-is-declared : need.returns-then-is-declared
 returns-then-is-declared c =

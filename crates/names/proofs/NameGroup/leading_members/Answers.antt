@@ -1,9 +1,9 @@
 use mathlib.Core.Path.{sym}
 use native.Mathlib.Omega.{arith}
-use Rattle.book.specs.NameGroups.{namesIn}
-use Rattle.book.specs.Names.{has}
-use Rattle.book.proofs.Leads.{lead-ends, lead-goes, lead-stops}
-use Rattle.book.proofs.names.NameGroup.leading_members.Needs as need
+use Rattle.names.specs.NameGroups.{namesIn}
+use Rattle.names.specs.Names.{has}
+use Rattle.names.proofs.Leads.{lead-ends, lead-goes, lead-stops}
+use Rattle.names.proofs.NameGroup.leading_members.Needs as need
 
 pub returns-then-not-has : need.returns-then-not-has
 returns-then-not-has c =

@@ -4,8 +4,8 @@ use Rattle.page.specs.declared.Entry.{Entry}
 use Rattle.records.specs.declared.lists.HeldBook.{HeldBook}
 use Rattle.records.specs.Book.{globals, modified, values}
 use Rattle.records.specs.Held.{bookOf}
-use Rattle.book.specs.declared.names.NameGroup.{NameGroup}
-use Rattle.book.specs.declared.names.NameGroup.the-variants.{Nothing, Globals, Values, ModifiedBy}
+use Rattle.names.specs.declared.NameGroup.{NameGroup}
+use Rattle.names.specs.declared.NameGroup.the-variants.{Nothing, Globals, Values, ModifiedBy}
 
 abbrev pub namesIn : NameGroup → HeldBook → List Entry
 namesIn Nothing b = []

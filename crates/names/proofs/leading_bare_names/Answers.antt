@@ -3,9 +3,9 @@ use native.Mathlib.Omega.{arith}
 use Rattle.page.specs.Pages.{paired}
 use Rattle.page.proofs.Pairs.{getD-paired, length-paired}
 use Rattle.records.proofs.Steps.{noEntry}
-use Rattle.book.specs.Names.{isBareName}
-use Rattle.book.proofs.Leads.{lead-ends, lead-goes, lead-stops}
-use Rattle.book.proofs.names.leading_bare_names.Needs as need
+use Rattle.names.specs.Names.{isBareName}
+use Rattle.names.proofs.Leads.{lead-ends, lead-goes, lead-stops}
+use Rattle.names.proofs.leading_bare_names.Needs as need
 
 pub returns-then-not-is-bare-name : need.returns-then-not-is-bare-name
 returns-then-not-is-bare-name c =

@@ -2,9 +2,9 @@ use Prim.Native.Nat.{_+_}
 use mathlib.Core.Path.{_≡_}
 use lib.ListN.{drop}
 use Rattle.std.specs.shelf.Lists.{leading}
-use Rattle.book.specs.NameGroups.{namesIn}
-use Rattle.book.specs.Names.{has}
-use Rattle.book.proofs.names.NameGroup.leading_members.Given as given
+use Rattle.names.specs.NameGroups.{namesIn}
+use Rattle.names.specs.Names.{has}
+use Rattle.names.proofs.NameGroup.leading_members.Given as given
 
 abbrev pub Inv-loop-i : given.InvT-loop-i
 Inv-loop-i l =

@@ -1,5 +1,6 @@
-ghost use Rattle.book.specs.Names.{fresh, has, isBareName, isName, isType, member};
-ghost use Rattle.book.specs.NameGroups.{namesIn};
+//! Names and types in pages: ranges, repetitions, and the groups of names that a book holds.
+ghost use Rattle.names.specs.Names.{fresh, has, isBareName, isName, isType, member};
+ghost use Rattle.names.specs.NameGroups.{namesIn};
 ghost use Rattle.page.specs.Pages.{paired};
 ghost use Rattle.records.specs.Book.{declaredAs, values};
 ghost use Rattle.records.specs.Held.{bookOf};
@@ -11,14 +12,14 @@ use records::lists::DeclarationKind;
 use records::lists::HeldBook;
 
 /// Is this number a name?
-pub(crate) fn is_name(number: u32) -> bool
+pub fn is_name(number: u32) -> bool
     ensures { λ r. ⌜ r ≡ isName number ⌝ }
 {
     number >= 1 && number <= 65535
 }
 
 /// How many of these numbers come before the first that is no name.
-pub(crate) fn leading_names(numbers: &[u32]) -> usize
+pub fn leading_names(numbers: &[u32]) -> usize
     ensures { λ r. ⌜ r ≡ leading isName (now (numbers .entry)) ⌝ }
 {
     for (i, number) in numbers.iter().enumerate() {
@@ -30,7 +31,7 @@ pub(crate) fn leading_names(numbers: &[u32]) -> usize
 }
 
 /// How many of these numbers come before the first that is no type.
-pub(crate) fn leading_types(numbers: &[u32]) -> usize
+pub fn leading_types(numbers: &[u32]) -> usize
     ensures { λ r. ⌜ r ≡ leading isType (now (numbers .entry)) ⌝ }
 {
     for (i, number) in numbers.iter().enumerate() {
@@ -49,7 +50,7 @@ fn is_bare_name(left: u32, right: u32) -> bool
 }
 
 /// How many of these entries come before the first that is no name with 0 on the right.
-pub(crate) fn leading_bare_names(left: &[u32], right: &[u32]) -> usize
+pub fn leading_bare_names(left: &[u32], right: &[u32]) -> usize
     ensures { λ r. ⌜ r ≡ leading isBareName (paired (now (left .entry)) (now (right .entry))) ⌝ }
 {
     let count = left.len().min(right.len());
@@ -75,7 +76,7 @@ fn is_member(numbers: &[u32], number: u32) -> bool
 
 /// Some names of a book.
 #[derive(Clone, Copy)]
-pub(crate) enum NameGroup {
+pub enum NameGroup {
     Nothing,
     Globals,
     /// Constants and globals.
@@ -113,7 +114,7 @@ impl NameGroup {
     }
 
     /// How many of these come before the first that is none of the group's names.
-    pub(crate) fn leading_members(self, book: &HeldBook, names: &[u32]) -> usize
+    pub fn leading_members(self, book: &HeldBook, names: &[u32]) -> usize
         ensures { λ r. ⌜ r ≡ leading (λ n. has n (namesIn self (now (book .entry)))) (now (names .entry)) ⌝ }
     {
         for (i, name) in names.iter().enumerate() {
@@ -132,7 +133,7 @@ impl NameGroup {
     }
 
     /// How many of these come before the first that is one of the group's names, or that stands among those before it.
-    pub(crate) fn leading_fresh(self, book: &HeldBook, names: &[u32]) -> usize
+    pub fn leading_fresh(self, book: &HeldBook, names: &[u32]) -> usize
         ensures { λ r. ⌜ r ≡ fresh (namesIn self (now (book .entry))) [] (now (names .entry)) ⌝ }
     {
         for i in 0..names.len() {

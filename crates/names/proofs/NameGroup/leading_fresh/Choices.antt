@@ -2,9 +2,9 @@ use Prim.Native.Nat.{_+_}
 use mathlib.Core.List.{[]}
 use mathlib.Core.Path.{_≡_}
 use lib.ListN.{drop, take}
-use Rattle.book.specs.NameGroups.{namesIn}
-use Rattle.book.specs.Names.{fresh}
-use Rattle.book.proofs.names.NameGroup.leading_fresh.Given as given
+use Rattle.names.specs.NameGroups.{namesIn}
+use Rattle.names.specs.Names.{fresh}
+use Rattle.names.proofs.NameGroup.leading_fresh.Given as given
 
 abbrev pub Inv-loop-i : given.InvT-loop-i
 Inv-loop-i l =

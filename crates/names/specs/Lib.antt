@@ -1,0 +1,2 @@
+pub mod NameGroups
+pub mod Names
