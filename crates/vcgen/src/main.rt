@@ -1,0 +1,6 @@
+//! Checks declarations of BoogiePL that are handed in as lines of numbers.
+use std::error::AnyError;
+
+fn main(rt: LibcRuntime) -> Result<(), AnyError> {
+    console::program::run(rt)
+}
