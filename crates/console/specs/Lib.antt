@@ -1,3 +1,2 @@
 pub mod Phases
-pub mod SizesSet
 pub mod Trace

@@ -1,6 +1,6 @@
 //! Why the program ends early.
-use crate::options::ArgumentError;
-use crate::options::ArgumentErrorDisplay;
+use arguments::ArgumentError;
+use arguments::ArgumentErrorDisplay;
 use lines::errors::LineError;
 use lines::errors::LineErrorDisplay;
 use std::alloc::AllocError;

@@ -29,7 +29,7 @@ impl Scope<'_> {
         if !self.globals {
             return self.book.find_declared(DeclarationKind::Constants, name);
         }
-        match self.book.find_declared(DeclarationKind::Globals, name) {
+        match self.find_old(name) {
             Some(t) => Some(t),
             None => self.book.find_declared(DeclarationKind::Constants, name),
         }

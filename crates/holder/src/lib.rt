@@ -54,7 +54,7 @@ impl<'a, T: Copy> Holder<'a, T> {
         ensures room { λ _. ⌜ room (held (now (self .exit))) ≡ room (held (now (self .entry))) ⌝ }
         ensures lent { λ _. ⌜ name (now (self .exit) .places) ≡ name (now (self .entry) .places) ⌝ }
     {
-        let count = self.used.min(self.places.len());
+        let count = self.places.len().min(self.used);
         if count == 0 {
             return None;
         }

@@ -30,10 +30,10 @@ pub enum ClauseKind {
 
 impl ClauseKind {
     /// Are these the same kind?
-    pub fn is(self, other: ClauseKind) -> bool
-        ensures { λ r. ⌜ r ≡ sameClause self other ⌝ }
+    pub fn is(self, kind: ClauseKind) -> bool
+        ensures { λ r. ⌜ r ≡ sameClause self kind ⌝ }
     {
-        self as u8 == other as u8
+        self as u8 == kind as u8
     }
 }
 

@@ -1,8 +1,8 @@
 -- The sizes that the arguments set.
 use Prim.Native.Nat.{ℕ}
-use Rattle.console.specs.declared.options.SizeOption.{SizeOption}
-use Rattle.console.specs.declared.options.SizeOption.the-variants.{Records, Operands, Work}
-use Rattle.console.specs.declared.options.Sizes.{Sizes}
+use Rattle.arguments.specs.declared.SizeOption.{SizeOption}
+use Rattle.arguments.specs.declared.SizeOption.the-variants.{Records, Operands, Work}
+use Rattle.arguments.specs.declared.Sizes.{Sizes}
 
 -- One size is set, and the others stay.
 abbrev pub sizesWith : SizeOption → ℕ → Sizes → Sizes

@@ -1,5 +1,5 @@
 //! The arguments of the program: `[--trace] [--records N] [--operands N] [--work N] [--help] [FILE]`, in any order.
-ghost use Rattle.console.specs.SizesSet.{sizesWith};
+ghost use Rattle.arguments.specs.Sizes.{sizesWith};
 ghost use mathlib.Core.Path.{_≡_};
 use lines::words::parse_word;
 use std::env::Args;
