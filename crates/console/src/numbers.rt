@@ -5,7 +5,11 @@ use lines::words::line_error;
 use lines::words::parse_word;
 
 /// Adds the numbers of a line. A line that begins with `#` has none. The line's number goes into an error.
-pub fn parse_numbers(line: usize, text: &str, numbers: &mut Vec<u32>) -> Result<(), Failure> {
+pub(crate) fn parse_numbers(
+    line: usize,
+    text: &str,
+    numbers: &mut Vec<u32>,
+) -> Result<(), Failure> {
     if text.starts_with('#') {
         return Ok(());
     }

@@ -56,7 +56,7 @@ pub enum Stage {
 }
 
 /// Makes the calls of all lines, and with `trace` writes a line for each.
-pub fn answer_lines<W: Write>(
+pub(crate) fn answer_lines<W: Write>(
     heap: Global,
     text: &str,
     trace: bool,

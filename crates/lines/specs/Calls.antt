@@ -2,7 +2,8 @@
 use mathlib.Core.Bool.{cond}
 use mathlib.Core.List.{List, [], _∷_}
 use Prim.Native.Nat.{ℕ, _+_, _*_, min}
-use lib.Dec.{eqb, leb}
+use lib.Chars.{codes}
+use lib.Dec.{eqb}
 use lib.ListN.{length, take, drop, getD}
 use Rattle.std.specs.declared.option.Option.{Option}
 use Rattle.std.specs.declared.option.Option.the-variants.{Some, None}
@@ -22,6 +23,15 @@ numberOf Block = 4
 numberOf Finish = 5
 numberOf Write = 6
 numberOf Shut = 7
+
+abbrev pub nameOf : CallKind → List ℕ
+nameOf Declare = codes "Declare"
+nameOf Settle = codes "Settle"
+nameOf Begin = codes "Begin"
+nameOf Block = codes "Block"
+nameOf Finish = codes "Finish"
+nameOf Write = codes "Write"
+nameOf Shut = codes "Shut"
 
 abbrev pub kindOf : ℕ → Option CallKind
 kindOf n =

@@ -1,6 +1,6 @@
 //! The calls: what the numbers of a line ask of the library.
 ghost use Prim.Native.Nat.{_≤_};
-ghost use Rattle.lines.specs.Calls.{beginOf, blockOf, callOf, commandEnd, declareOf, finishOf, kindOf, kindOfCall, lineOf, numberOf, only};
+ghost use Rattle.lines.specs.Calls.{beginOf, blockOf, callOf, commandEnd, declareOf, finishOf, kindOf, kindOfCall, lineOf, nameOf, numberOf, only};
 ghost use Rattle.lines.specs.Lines.{shown, theError};
 ghost use Rattle.std.specs.Results.{mapped};
 ghost use lib.ListN.{length, take, drop};
@@ -76,7 +76,9 @@ impl CallKind {
     }
 
     /// The name of this call, for messages.
-    pub fn name(self) -> &'static str {
+    pub fn name(self) -> &'static str
+        ensures { λ r. ⌜ now r ≡ nameOf self ⌝ }
+    {
         match self {
             CallKind::Declare => "Declare",
             CallKind::Settle => "Settle",
