@@ -23,7 +23,8 @@ use Rattle.records.specs.declared.lists.DeclarationKind.the-variants.{Constants
 use Rattle.records.specs.Book.{Book, Numbered, clausesOf, constants, globals, modified, procedureNamed, procedures, values}
 use Rattle.records.specs.Found.{orElse}
 use Rattle.records.specs.Held.{isFull}
-use Rattle.names.specs.Names.{fresh, has, isBareName, isName, isType}
+use Rattle.names.specs.Names.{fresh, isBareName, isName, isType}
+use Rattle.language.specs.Expressions.{has}
 
 abbrev pub lefts : Sheet → List ℕ
 lefts p = p .left .numbers

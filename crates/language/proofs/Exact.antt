@@ -30,7 +30,7 @@ use Rattle.language.specs.Checking.{Waiting, waitingFor, leaf, replaced, onOne
 -- What is accepted is a postfix form.
 module _ (sc : Scope) where
   -- The entries are the postfix forms of rightly typed expressions of these types, the last expression's type in front.
-  data Spelled : List ValueType → List Entry → Type 0 where
+  pub data Spelled : List ValueType → List Entry → Type 0 where
     nothing : Spelled [] []
     more : {ws : List ValueType} {es : List Entry} {x : Expression} {t : ValueType} → Spelled ws es → Typed sc x t → Spelled (t ∷ ws) (es ++ postfix x)
 
@@ -55,7 +55,8 @@ module _ (sc : Scope) where
   two-spelled code (more nothing d) = tt
   two-spelled code (more {t = y} (more {t = x} s d) f) = replaced-spelled (binaryType code x y) (λ t i. simp append-assoc (more s (a-binary code d f i)))
 
-  entry-spelled : (e : Entry) {ws : List ValueType} {es : List Entry} → Spelled ws es → made (afterEntry sc e ws) (λ vs. Spelled vs (es ++ (e ∷ [])))
+  -- One entry more keeps the entries spelled.
+  pub entry-spelled : (e : Entry) {ws : List ValueType} {es : List Entry} → Spelled ws es → made (afterEntry sc e ws) (λ vs. Spelled vs (es ++ (e ∷ [])))
   entry-spelled e {es = es} s =
       cond-both (eqb (e .left) 4) _ _ Good
       (λ b. rw (eqb-true (e .left) 4 b) (waiting-spelled s (a-literal (e .right)))) (λ b.
@@ -105,7 +106,7 @@ has-olds name (Some globals) i = refl
 -- A postfix form is accepted.
 module _ (sc : Scope) where
   -- Entry by entry, the first waiting types become the second.
-  data Leads : List Entry → List ValueType → List ValueType → Type 0 where
+  pub data Leads : List Entry → List ValueType → List ValueType → Type 0 where
     stay : {ws : List ValueType} → Leads [] ws ws
     step : {e : Entry} {es : List Entry} {ws vs us : List ValueType} → afterEntry sc e ws ≡ Ok vs → Leads es vs us → Leads (e ∷ es) ws us
 
@@ -113,7 +114,8 @@ module _ (sc : Scope) where
   leads-after i stay = refl
   leads-after i (step a l) = rw (a, afterEntries) (leads-after (i + 1) l)
 
-  leads-postfix : {x : Expression} {t : ValueType} {es : List Entry} {ws vs : List ValueType}
+  -- The entries of a rightly typed expression put its type in front.
+  pub leads-postfix : {x : Expression} {t : ValueType} {es : List Entry} {ws vs : List ValueType}
       → Typed sc x t → length ws + length (postfix x) ≤ 1024 → Leads es (t ∷ ws) vs → Leads (postfix x ++ es) ws vs
   leads-postfix (a-word code i) h l = step (grind (arith, tells)) l
   leads-postfix (a-literal value) h l = step (grind (arith, tells)) l

@@ -1,11 +1,12 @@
 -- Expressions, their postfix form, and their types.
-use mathlib.Core.Bool.{cond}
+use mathlib.Core.Bool.{Bool, cond}
 use mathlib.Core.List.{List, [], _∷_, _++_}
 use mathlib.Core.Path.{_≡_}
 use Prim.Native.Nat.{ℕ}
 use lib.Dec.{eqb}
 use Rattle.std.specs.declared.option.Option.{Option}
 use Rattle.std.specs.declared.option.Option.the-variants.{Some, None}
+use Rattle.std.specs.Options.{isSome}
 use Rattle.page.specs.declared.Entry.{Entry}
 use Rattle.language.specs.declared.ValueType.{ValueType}
 use Rattle.language.specs.Codes.{bool, int, wordType, unaryType, binaryType}
@@ -42,6 +43,10 @@ pub record Scope : Type 0 where
 abbrev pub typeOf : ℕ → List Entry → Option ValueType
 typeOf name [] = None
 typeOf name (e ∷ es) = cond (eqb (e .left) name) (Some (record { number = e .right })) (typeOf name es)
+
+-- Do these entries have that name?
+abbrev pub has : ℕ → List Entry → Bool
+has name entries = isSome (typeOf name entries)
 
 abbrev pub oldType : ℕ → Option (List Entry) → Option ValueType
 oldType name None = None

@@ -1,4 +1,5 @@
 //! The types and the expression codes of the language.
+ghost use Rattle.language.specs.CommandChecking.{ExactCommands};
 ghost use Rattle.language.specs.Codes.{alike, resultOf};
 ghost use mathlib.Core.Path.{_≡_};
 
@@ -58,4 +59,12 @@ pub fn result_type(code: u32, operands: Operands) -> Option<ValueType>
         }
         _ => None,
     }
+}
+
+/// A command page of at most 1,024 entries is accepted, entry by entry, exactly where it is the postfix form of
+/// commands that are right in their body. (The check itself comes with the bodies.)
+pub fn command_pages_are_exact() -> bool
+    ensures { λ r. ⌜ ExactCommands ⌝ }
+{
+    true
 }

@@ -17,7 +17,9 @@ use Rattle.language.specs.declared.ValueType.{ValueType}
 use Rattle.language.specs.Expressions.{typeOf}
 use Rattle.records.specs.Found.{orElse}
 use Rattle.records.proofs.Finds.{typeOf-append}
-use Rattle.names.specs.Names.{fresh, has, member}
+use Rattle.names.specs.Names.{fresh}
+use Rattle.language.specs.Expressions.{has}
+use Rattle.language.specs.Lists.{member}
 
 -- A search that has come to index i; `whole` is the index that it is to answer.
 module _ {X : Type 0} (p : X → Bool) (xs : List X) (i : ℕ) (d : X) (whole : ℕ) (inv : i + leading p (drop i xs) ≡ whole) where

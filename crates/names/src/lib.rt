@@ -1,5 +1,7 @@
 //! Names and types in pages: ranges, repetitions, and the groups of names that a book holds.
-ghost use Rattle.names.specs.Names.{fresh, has, isBareName, isName, isType, member};
+ghost use Rattle.names.specs.Names.{fresh, isBareName, isName, isType};
+ghost use Rattle.language.specs.Expressions.{has};
+ghost use Rattle.language.specs.Lists.{member};
 ghost use Rattle.names.specs.NameGroups.{namesIn};
 ghost use Rattle.page.specs.Pages.{paired};
 ghost use Rattle.records.specs.Book.{declaredAs, values};

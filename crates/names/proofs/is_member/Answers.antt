@@ -1,7 +1,7 @@
 use native.Mathlib.Omega.{arith}
 use Rattle.std.proofs.shelf.Lists.{at-drop-all, at-drop-more}
 use Rattle.std.proofs.shelf.Ways.{tells}
-use Rattle.names.specs.Names.{member}
+use Rattle.language.specs.Lists.{member}
 use Rattle.names.proofs.is_member.Needs as need
 
 pub returns-then-x-number : need.returns-then-x-number

@@ -1,6 +1,6 @@
 use mathlib.Core.Path.{_≡_}
 use lib.ListN.{drop}
-use Rattle.names.specs.Names.{member}
+use Rattle.language.specs.Lists.{member}
 use Rattle.names.proofs.is_member.Given as given
 
 abbrev pub Inv-loop-x : given.InvT-loop-x

@@ -2,7 +2,7 @@ use mathlib.Core.Bool.{Bool, _||_}
 use mathlib.Core.Path.{sym, ap, _∙_}
 use Rattle.records.specs.Book.{constants, globals}
 use Rattle.records.specs.Held.{bookOf}
-use Rattle.names.specs.Names.{has}
+use Rattle.language.specs.Expressions.{has}
 use Rattle.names.proofs.Leads.{has-append}
 use Rattle.names.proofs.is_value.Needs as need
 

@@ -1,7 +1,7 @@
 use mathlib.Core.Path.{sym}
 use native.Mathlib.Omega.{arith}
 use Rattle.names.specs.NameGroups.{namesIn}
-use Rattle.names.specs.Names.{has}
+use Rattle.language.specs.Expressions.{has}
 use Rattle.names.proofs.Leads.{lead-ends, lead-goes, lead-stops}
 use Rattle.names.proofs.NameGroup.leading_members.Needs as need
 

@@ -3,7 +3,7 @@ use mathlib.Core.Path.{_≡_}
 use lib.ListN.{drop}
 use Rattle.std.specs.shelf.Lists.{leading}
 use Rattle.names.specs.NameGroups.{namesIn}
-use Rattle.names.specs.Names.{has}
+use Rattle.language.specs.Expressions.{has}
 use Rattle.names.proofs.NameGroup.leading_members.Given as given
 
 abbrev pub Inv-loop-i : given.InvT-loop-i

@@ -1,0 +1,16 @@
+pub mod Alikes
+pub mod Passes
+pub mod Types
+pub mod Calls
+pub mod Places
+pub mod Fit
+pub mod Wrongs
+pub mod Falses
+pub mod Oks
+pub mod Codes
+pub mod Tells
+pub mod Backs
+pub mod Theorem
+pub mod Readings
+pub mod Costs
+pub mod Examples

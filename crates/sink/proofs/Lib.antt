@@ -1,0 +1,2 @@
+pub mod Apt
+pub mod Keeping
