@@ -114,7 +114,7 @@ fn answer_line(
 }
 
 /// Makes a call, and answers the book's next state and what the call came to.
-pub fn make_call(stage: Stage, lists: &mut Lists, call: Call) -> Result<(Stage, Outcome), LineError>
+fn make_call(stage: Stage, lists: &mut Lists, call: Call) -> Result<(Stage, Outcome), LineError>
     ensures { λ r. ⌜ mapped (λ p. phase (p .0)) theError r ≡ phaseAfter (shown (call .entry)) (phase stage) ⌝ }
 {
     match call {

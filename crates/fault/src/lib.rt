@@ -35,7 +35,7 @@ pub enum Ground {
     Remaining,
     /// A changed name is a constant or an in-parameter.
     Unchangeable,
-    /// A changed global is not in the procedure's modifies clauses.
+    /// A changed global, or one that the callee modifies, is not in the procedure's modifies clauses.
     NotModified,
     /// The receivers of a call repeat, or their number is wrong.
     Receivers,

@@ -20,6 +20,7 @@ impl<'a, T: Copy> Holder<'a, T> {
     /// A holder in which nothing waits, with room for as many values as there are places.
     pub fn new(places: &'a mut [T]) -> Holder<'a, T>
         ensures is { λ r. ⌜ held r ≡ record { places = now (places .entry); used = 0 } ⌝ }
+        ensures lent { λ r. ⌜ name (r .places) ≡ name (places .entry) ⌝ }
     {
         Holder { places, used: 0 }
     }

@@ -117,11 +117,19 @@ Clauses cs ts os es = All (λ e. Typed cs ts os e bool) es
 abbrev pub Places : List ValueType → List ℕ → List ValueType → Type 0
 Places ts xs us = Alike (λ x t. nth ts x ≡ Some t) xs us
 
+-- Each number is above the one before it.
+abbrev pub Ascending : List ℕ → Type 0
+Ascending [] = Unit {0}
+Ascending (x ∷ []) = Unit {0}
+Ascending (x ∷ y ∷ rest) = (x < y) × Ascending (y ∷ rest)
+
 -- A procedure that may be called: requires speak of the globals and in-parameters, ensures of the out-parameters and old globals too.
 pub record SoundProcedure (r : Routine) (p : Procedure) : Type 0 where
   pub requires-typed : Clauses (r .constants) (r .globals ++ (p .ins ++ [])) [] (p .requires)
   pub ensures-typed : Clauses (r .constants) (r .globals ++ (p .ins ++ p .outs)) (r .globals) (p .ensures)
+  -- the globals that it modifies, by number
   pub modifies-globals : All (λ g. g < length (r .globals)) (p .modifies)
+  pub modifies-ascend : Ascending (p .modifies)
 
 -- A command that is rightly typed and without `old`. Arguments and receivers have the types of the parameters.
 abbrev pub SoundCommand : Routine → Command → Type 0
@@ -133,6 +141,7 @@ SoundCommand r (call p es xs) =
     SoundProcedure r (procedure r p)
     × AllTyped (r .constants) (variables r) [] es (procedure r p .ins)
     × Places (variables r) xs (procedure r p .outs)
+    × (p < length (r .procedures))
 
 -- All of them are.
 abbrev pub SoundCommands : Routine → List Command → Type 0

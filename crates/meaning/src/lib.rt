@@ -6,23 +6,17 @@ use world::Carrier;
 /// Whatever the values are, the formula of a sound routine is false exactly where a run of it goes
 /// wrong, every run has a fitting reading, where the formula is true in all of them no run goes
 /// wrong, its tells are lawful, and there are at most T of them.
-pub fn formulas_mean_runs<C: Carrier>(carrier: &C) -> bool
-    ensures { λ r. ⌜ Promises (C·Carrier .Value) ⌝ }
-{
-    true
-}
+pub fn formulas_mean_runs<C: Carrier>(carrier: &C)
+    ensures { λ _. ⌜ Promises (C·Carrier .Value) ⌝ }
+{}
 
 /// Whatever the values are, there are a sound routine whose formula is false in every reading and
 /// one whose formula is true in every reading.
-pub fn formulas_differ<C: Carrier>(carrier: &C) -> bool
-    ensures { λ r. ⌜ Examples (C·Carrier .Value) ⌝ }
-{
-    true
-}
+pub fn formulas_differ<C: Carrier>(carrier: &C)
+    ensures { λ _. ⌜ Examples (C·Carrier .Value) ⌝ }
+{}
 
 /// Over the truth values, every reading of some world fits every routine, and formulas differ.
-pub fn nothing_is_vacuous() -> bool
-    ensures { λ r. ⌜ NotVacuous ⌝ }
-{
-    true
-}
+pub fn nothing_is_vacuous()
+    ensures { λ _. ⌜ NotVacuous ⌝ }
+{}
