@@ -1,18 +1,22 @@
 -- What Declare and Settle answer, and what they leave.
-use Rattle.std.specs.Prelude.{ℕ, ◌+◌, List, Ok, Err, Result, slice_set}
+use Rattle.std.specs.Prelude.{ℕ, ◌+◌, ◌<◌, ◌≤◌, Bool, cond, ◌&&◌, ◌||◌, List, [], ◌∷◌, ◌++◌, length, take, drop, set, Some, None, Ok, Err, Option, Result, ◌==◌, nat_le, nat_lt}
 use Rattle.fault.specs.declared.Cause.{Cause}
+use Rattle.fault.specs.declared.Cause.TheVariants.{Call}
 use Rattle.fault.specs.declared.Fault.{Fault}
-use Rattle.page.specs.Pages.{Sheet, entries_of}
+use Rattle.fault.specs.declared.Ground.TheVariants.{Form, Lists}
+use Rattle.page.specs.declared.Entry.{Entry}
+use Rattle.page.specs.Pages.{Sheet, entries_of, page_of}
 use Rattle.records.specs.declared.lists.ClauseKind.{ClauseKind}
+use Rattle.records.specs.declared.lists.ClauseKind.TheVariants.{Axiom, Requires, Ensures, Modifies}
 use Rattle.records.specs.declared.lists.Counts.{Counts}
 use Rattle.records.specs.declared.lists.DeclarationKind.{DeclarationKind}
-use Rattle.records.specs.Entries.{written}
-use Rattle.records.specs.Held.{Stored}
-use Rattle.judge.specs.declared.Addition.TheVariants.{Declaration as AddDeclaration, Clause as AddClause}
-use Rattle.judge.specs.declared.Ruling.{Ruling}
-use Rattle.judge.specs.Verdicts.{Judged, judged}
+use Rattle.records.specs.declared.lists.DeclarationKind.TheVariants.{Constants, Globals, Procedure}
+use Rattle.records.specs.Book.{Book, Numbered, clauses_of, procedure_named}
+use Rattle.records.specs.Held.{Stored, held_in}
+use Rattle.book.specs.declared.clauses.Stating.{Stating}
 use Rattle.book.specs.declared.states.Open.{Open}
 use Rattle.book.specs.declared.states.Settled.{Settled}
+use Rattle.book.specs.Rules.{axiom_rule, condition_rule, count_of, modifies_rule, procedure_rule, stated_for, values_rule}
 
 -- What a call ends with: its answer, the counts of the book, and the contents of the lists.
 pub record Ended : Type 0 where
@@ -24,16 +28,29 @@ pub record Ended : Type 0 where
 abbrev pub refused : Cause → Counts → Stored → Ended
 refused cause n st = record { answer = Err (record { block = 0; cause = cause }); counts = n; lists = st }
 
+-- The page's entries do not fit into the book's 65,536, or not into the list.
+abbrev pub overfull : Counts → Stored → Sheet → Bool
+overfull n st p = nat_lt 65536 (n.entries + (p.a + p.b)) || nat_lt (length st.entries) (n.entries + (p.a + p.b))
+
+abbrev pub no_declaration_left : Counts → Stored → Sheet → Bool
+no_declaration_left n st p = nat_le (length st.declarations) n.declarations || overfull n st p
+
+abbrev pub no_clause_left : Counts → Stored → Sheet → Bool
+no_clause_left n st p = nat_le (length st.clauses) n.clauses || overfull n st p
+
+-- Entries written from a place on.
+abbrev pub written : List Entry → ℕ → List Entry → List Entry
+written old place new = take place old ++ (new ++ drop (place + length new) old)
+
 -- One declaration record more, and its entries.
 abbrev pub declaration_added : DeclarationKind → ℕ → Sheet → ℕ → Counts → Stored → Ended
 declaration_added kind name p number n st = record {
   answer = Ok number;
   counts = record { declarations = n.declarations + 1; clauses = n.clauses; entries = n.entries + (p.a + p.b) };
   lists = record {
-    declarations = slice_set st.declarations n.declarations (record { kind = kind; name = name; start = n.entries; a = p.a; b = p.b });
+    declarations = set st.declarations n.declarations (record { kind = kind; name = name; start = n.entries; a = p.a; b = p.b });
     clauses = st.clauses;
     entries = written st.entries n.entries (entries_of p);
-    blocks = st.blocks;
   };
 }
 
@@ -44,27 +61,82 @@ clause_added kind procedure p number n st = record {
   counts = record { declarations = n.declarations; clauses = n.clauses + 1; entries = n.entries + (p.a + p.b) };
   lists = record {
     declarations = st.declarations;
-    clauses = slice_set st.clauses n.clauses (record { kind = kind; procedure = procedure; start = n.entries; count = p.a + p.b });
+    clauses = set st.clauses n.clauses (record { kind = kind; procedure = procedure; start = n.entries; count = p.a + p.b });
     entries = written st.entries n.entries (entries_of p);
-    blocks = st.blocks;
   };
 }
 
--- What was accepted is added.
-abbrev pub added : Ruling → Sheet → Counts → Stored → Ended
-added r p n st =
-    elim r.addition [
-      | AddDeclaration kind name ↦ declaration_added kind name p r.number n st
-      | AddClause kind procedure ↦ clause_added kind procedure p r.number n st
-    ]
+-- A declaration that was judged.
+abbrev pub declaration_ended : DeclarationKind → ℕ → Sheet → Counts → Stored → Result ℕ Cause → Ended
+declaration_ended kind name p n st (Ok number) = declaration_added kind name p number n st
+declaration_ended kind name p n st (Err cause) = refused cause n st
 
-abbrev pub ended : Counts → Stored → Result Judged Cause → Ended
-ended n st (Ok j) = added j.ruling j.sheet n st
-ended n st (Err cause) = refused cause n st
+-- A clause that was judged.
+abbrev pub clause_ended : ClauseKind → Sheet → Counts → Stored → Result Stating Cause → Ended
+clause_ended kind p n st (Ok s) = clause_added kind s.procedure p s.number n st
+clause_ended kind p n st (Err cause) = refused cause n st
 
--- Declare: the judge is asked, and what it accepts is added.
+abbrev pub accepting : {A : Type 0} → Option Cause → A → Result A Cause
+accepting None a = Ok a
+accepting (Some cause) a = Err cause
+
+-- First the sizes are looked at, then whether the lists hold a book, and then the rule.
+abbrev pub verdict : {A : Type 0} → Bool → Counts → Stored → (Book → Result A Cause) → Result A Cause
+verdict suits n st rule =
+    cond suits (elim (held_in n st) [ Some b ↦ rule b | None ↦ Err (Call Lists) ]) (Err (Call Form))
+
+-- Constants or globals: the number of the first.
+abbrev pub values_verdict : DeclarationKind → ℕ → Sheet → Counts → Stored → Result ℕ Cause
+values_verdict kind name p n st =
+    verdict (nat_lt 0 p.a && p.b == 0) n st
+    (λ b. accepting (values_rule kind name p (no_declaration_left n st p) b) (count_of kind b))
+
+-- A procedure: its number.
+abbrev pub procedure_verdict : ℕ → Sheet → Counts → Stored → Result ℕ Cause
+procedure_verdict name p n st =
+    verdict (nat_le p.a 16 && nat_le p.b 16) n st
+    (λ b. accepting (procedure_rule name p (no_declaration_left n st p) b) (count_of Procedure b))
+
+-- An axiom: its number.
+abbrev pub axiom_verdict : ℕ → Sheet → Counts → Stored → Result Stating Cause
+axiom_verdict name p n st =
+    verdict (p.b == 0) n st
+    (λ b. accepting (axiom_rule name p (no_clause_left n st p) b) (record { procedure = 0; number = length (clauses_of Axiom 0 b) }))
+
+-- The number of the named procedure, which an accepted clause has.
+abbrev pub number_in : Option Numbered → ℕ
+number_in None = 0
+number_in (Some q) = q.number
+
+-- A clause of a procedure: the procedure's number, and its own among the clauses of its kind.
+abbrev pub stating : ClauseKind → ℕ → Book → Stating
+stating kind name b = record { procedure = number_in (procedure_named name b); number = stated_for kind (procedure_named name b) b }
+
+abbrev pub condition_verdict : ClauseKind → ℕ → Sheet → Counts → Stored → Result Stating Cause
+condition_verdict kind name p n st =
+    verdict (p.b == 0) n st
+    (λ b. accepting (condition_rule kind name p (no_clause_left n st p) b) (stating kind name b))
+
+abbrev pub modifies_verdict : ℕ → Sheet → Counts → Stored → Result Stating Cause
+modifies_verdict name p n st =
+    verdict (p.b == 0) n st
+    (λ b. accepting (modifies_rule name p (no_clause_left n st p) b) (stating Modifies name b))
+
+-- By the kind's number.
+abbrev pub declared_page : ℕ → ℕ → Counts → Stored → Sheet → Ended
+declared_page kind name n st p =
+    cond (kind == 3) (declaration_ended Constants 0 p n st (values_verdict Constants name p n st))
+    (cond (kind == 4) (declaration_ended Globals 0 p n st (values_verdict Globals name p n st))
+    (cond (kind == 6) (declaration_ended Procedure name p n st (procedure_verdict name p n st))
+    (cond (kind == 7) (clause_ended Axiom p n st (axiom_verdict name p n st))
+    (cond (kind == 8) (clause_ended Requires p n st (condition_verdict Requires name p n st))
+    (cond (kind == 9) (clause_ended Ensures p n st (condition_verdict Ensures name p n st))
+    (cond (kind == 10) (clause_ended Modifies p n st (modifies_verdict name p n st))
+    (refused (Call Form) n st)))))))
+
+-- Declare.
 abbrev pub declared : ℕ → ℕ → List ℕ → Counts → Stored → Ended
-declared kind name numbers n st = ended n st (judged kind name numbers n st)
+declared kind name numbers n st = elim (page_of numbers) [ Some p ↦ declared_page kind name n st p | None ↦ refused (Call Form) n st ]
 
 -- A new book.
 abbrev pub new_book : Open
@@ -73,3 +145,14 @@ new_book = record { counts = record { declarations = 0; clauses = 0; entries = 0
 -- Settle closes the book, and changes nothing else.
 abbrev pub settled : Open → Settled
 settled b = record { counts = b.counts }
+
+-- What the adding half of a declaration, or of a clause, needs.
+pub record DeclarationRoom (n : Counts) (st : Stored) (p : Sheet) : Type 0 where
+  pub within : n.entries + (p.a + p.b) ≤ 65536
+  pub entries : n.entries + (p.a + p.b) ≤ length st.entries
+  pub free : n.declarations < length st.declarations
+
+pub record ClauseRoom (n : Counts) (st : Stored) (p : Sheet) : Type 0 where
+  pub within : n.entries + (p.a + p.b) ≤ 65536
+  pub entries : n.entries + (p.a + p.b) ≤ length st.entries
+  pub free : n.clauses < length st.clauses

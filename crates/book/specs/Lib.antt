@@ -1,1 +1,3 @@
+pub mod Conditions
 pub mod Declare
+pub mod Rules

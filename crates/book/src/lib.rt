@@ -1,6 +1,8 @@
 //! The book while it is open: Declare takes declarations and clauses, and Settle closes it to more.
 mod add;
+mod clauses;
 mod declare;
+mod rules;
 mod states;
 
 pub use states::{Open, Settled};

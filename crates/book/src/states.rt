@@ -1,5 +1,3 @@
-ghost use Rattle.std.specs.Prelude.{◌≡◌};
-
 use records::lists::Counts;
 
 /// A book that takes declarations: how many records of each list are in use.
@@ -12,13 +10,4 @@ pub struct Open {
 #[derive(Drop)]
 pub struct Settled {
     pub(crate) counts: Counts,
-}
-
-impl Settled {
-    /// How many records of each list are in use.
-    pub fn counts(&self) -> Counts
-        ensures { result ≡ self.now.counts }
-    {
-        self.counts
-    }
 }

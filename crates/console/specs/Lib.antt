@@ -1,2 +1,2 @@
-pub mod Made
+pub mod Phases
 pub mod Trace

@@ -3,7 +3,7 @@ use Rattle.std.specs.Prelude.{ℕ, List, ◌++◌, codes, decimal}
 use Rattle.fault.specs.declared.Report.{Report}
 use Rattle.lines.specs.declared.calls.CallKind.{CallKind}
 use Rattle.console.specs.declared.outcomes.Outcome.{Outcome}
-use Rattle.console.specs.declared.outcomes.Outcome.TheVariants.{Declared, Done, Refused}
+use Rattle.console.specs.declared.outcomes.Outcome.TheVariants.{Declared, Settled, Refused}
 use Rattle.lines.specs.Calls.{number_of}
 
 -- The ground, the block, the entry and the item of a refusal.
@@ -13,5 +13,5 @@ report_text r =
 
 abbrev pub outcome_text : Outcome → List ℕ
 outcome_text (Declared number) = codes "1 ok " ++ decimal number
-outcome_text (Done call) = decimal (number_of call) ++ codes " ok"
+outcome_text Settled = codes "2 ok"
 outcome_text (Refused call report) = decimal (number_of call) ++ (codes " refused " ++ report_text report)

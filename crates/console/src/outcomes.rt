@@ -11,8 +11,8 @@ use std::fmt;
 pub enum Outcome {
     /// Declare was accepted, and answers this number.
     Declared { number: usize },
-    /// A call that answers nothing was accepted.
-    Done { call: CallKind },
+    /// Settle was accepted.
+    Settled,
     /// The call was refused. The book is as it was.
     Refused { call: CallKind, report: Report },
 }
@@ -23,10 +23,7 @@ impl fmt::Display for Outcome {
     fn fmt<W: fmt::Write>(&self, f: &mut fmt::Formatter<W>) -> fmt::Result {
         match self {
             Outcome::Declared { number } => write!(f, "1 ok {number}"),
-            Outcome::Done { call } => {
-                let call = call.number();
-                write!(f, "{call} ok")
-            }
+            Outcome::Settled => write!(f, "2 ok"),
             Outcome::Refused { call, report } => {
                 let call = call.number();
                 let ground = report.number;

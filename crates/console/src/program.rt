@@ -8,16 +8,16 @@ use std::{env, fs, io};
 
 const HELP: &str = "usage: vcgen [--trace] [--records N] [--operands N] [--work N] [--help] [FILE]
 
-Checks declarations and blocks of BoogiePL. The input, FILE or else standard input, has a call on each line, as
+Checks declarations of BoogiePL. The input, FILE or else standard input, has a call on each line, as
 decimal numbers from 0 to 4294967295 with blanks between. Empty lines and lines that begin with # are skipped.
 
   1 kind name page...       Declare
   2                         Settle
-  3 name page...            Begin
-  4 name page... page...    Block
-  5 0                       Finish
+  3 name page...            Begin (not available yet)
+  4 name page... page...    Block (not available yet)
+  5 0                       Finish (not available yet)
   6                         Write (not available yet)
-  7                         Shut
+  7                         Shut (not available yet)
 
   --trace       print a line for every call: 'C ok ANSWERS...' or 'C refused GROUND BLOCK ENTRY ITEM',
                 where C is the call's number

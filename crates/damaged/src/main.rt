@@ -137,7 +137,6 @@ fn declare_after(damage: Damage) -> Option<Result<usize, Fault>> {
         declarations: &mut declarations,
         clauses: &mut clauses,
         entries: &mut entries,
-        blocks: &mut [],
     };
     if !declare_all(&mut book, &mut lists) {
         return None;
@@ -149,7 +148,6 @@ fn declare_after(damage: Damage) -> Option<Result<usize, Fault>> {
         declarations: &mut declarations[0..n],
         clauses: &mut clauses[0..m],
         entries: &mut entries[0..k],
-        blocks: &mut [],
     };
     Some(book.declare(&mut lent, 3, 0, &[1, 0, 50, 2]))
 }

@@ -9,7 +9,7 @@ use Rattle.page.specs.declared.Entry.{Entry}
 use Rattle.page.specs.Pages.{paired}
 use Rattle.page.proofs.Pairs.{get_or-paired, length-paired}
 use Rattle.language.specs.declared.ValueType.{ValueType}
-use Rattle.language.specs.Checking.{Waiting, after_entries, after_entry, at_end, checked, entry_within, located}
+use Rattle.language.specs.Checking.{Waiting, after_entries, after_entry, at_end, checked, located}
 use Rattle.language.specs.Codes.{bool}
 use Rattle.language.specs.Expressions.{Postfix, Scope, entry}
 use Rattle.language.proofs.Exact.{exact}
@@ -29,17 +29,13 @@ module _ (sc : Scope) (ls rs : List ℕ) (i : ℕ) (ws : List ValueType) (whole 
       ∙ ap (λ e. after_entries sc i (e ∷ drop (i + 1) (paired ls rs)) ws) (get_or-paired ls rs i no_entry h k))
       ∙ inv
 
-  roomy : (room : ℕ) → room ≡ 1024 → entry_within room sc (entry (get_or ls i 0) (get_or rs i 0)) ws ≡ after_entry sc (entry (get_or ls i 0) (get_or rs i 0)) ws
-  roomy room r = ap (λ (n : ℕ). entry_within n sc (entry (get_or ls i 0) (get_or rs i 0)) ws) r
-
-  pub walk_stops : (room : ℕ) → room ≡ 1024 → (g : Ground) → Err g ≡ entry_within room sc (entry (get_or ls i 0) (get_or rs i 0)) ws → Err (AtEntry g (At i (get_or ls i 0))) ≡ whole
+  pub walk_stops : (g : Ground) → Err g ≡ after_entry sc (entry (get_or ls i 0) (get_or rs i 0)) ws → Err (AtEntry g (At i (get_or ls i 0))) ≡ whole
   unfolding continued
-  walk_stops room r g e = ap continued (e ∙ roomy room r) ∙ step
+  walk_stops g e = ap continued e ∙ step
 
-  pub walk_goes : (room : ℕ) → room ≡ 1024 → (vs : List ValueType) → Ok vs ≡ entry_within room sc (entry (get_or ls i 0) (get_or rs i 0)) ws
-      → after_entries sc (i + 1) (drop (i + 1) (paired ls rs)) vs ≡ whole
+  pub walk_goes : (vs : List ValueType) → Ok vs ≡ after_entry sc (entry (get_or ls i 0) (get_or rs i 0)) ws → after_entries sc (i + 1) (drop (i + 1) (paired ls rs)) vs ≡ whole
   unfolding continued
-  walk_goes room r vs e = ap continued (e ∙ roomy room r) ∙ step
+  walk_goes vs e = ap continued e ∙ step
 
 finished : ℕ → Result (List ValueType) Cause → Result (Unit {0}) Cause
 finished n o = elim o [ Ok ws ↦ at_end n ws | Err cause ↦ Err cause ]

@@ -2,7 +2,7 @@ ghost use Rattle.expression.specs.Scopes.{scope_of};
 ghost use Rattle.expression.specs.Waits.{outcome};
 ghost use Rattle.holder.specs.Holding.{held};
 ghost use Rattle.holder.specs.Stack.{room, waits};
-ghost use Rattle.language.specs.Checking.{at_end, checked, entry_within, leaf, on_one, on_two, replaced, waiting_for};
+ghost use Rattle.language.specs.Checking.{after_entry, at_end, checked, leaf, on_one, on_two, replaced, waiting_for};
 ghost use Rattle.language.specs.Codes.{bool};
 ghost use Rattle.language.specs.Expressions.{Postfix};
 ghost use Rattle.page.specs.Pages.{paired};
@@ -16,8 +16,9 @@ use page::Entry;
 
 /// One value more waits.
 fn wait(waiting: &mut Holder<ValueType>, t: ValueType) -> Result<(), Ground>
-    ensures does { outcome result (waits (held waiting.new)) ≡ waiting_for (room (held waiting.old)) t (waits (held waiting.old)) }
-    ensures room { room (held waiting.new) ≡ room (held waiting.old) }
+    requires { room (held waiting.old) ≡ 1024 }
+    ensures does { outcome result (waits (held waiting.new)) ≡ waiting_for t (waits (held waiting.old)) }
+    ensures room { room (held waiting.new) ≡ 1024 }
 {
     match waiting.push(t) {
         Ok(()) => Ok(()),
@@ -31,8 +32,9 @@ fn wait_for(
     found: Option<ValueType>,
     ground: Ground,
 ) -> Result<(), Ground>
-    ensures does { outcome result (waits (held waiting.new)) ≡ leaf (room (held waiting.old)) ground found (waits (held waiting.old)) }
-    ensures room { room (held waiting.new) ≡ room (held waiting.old) }
+    requires { room (held waiting.old) ≡ 1024 }
+    ensures does { outcome result (waits (held waiting.new)) ≡ leaf ground found (waits (held waiting.old)) }
+    ensures room { room (held waiting.new) ≡ 1024 }
 {
     match found {
         Some(t) => wait(waiting, t),
@@ -42,9 +44,9 @@ fn wait_for(
 
 /// A value of the result's type waits in the place of the operands.
 fn replace(waiting: &mut Holder<ValueType>, res: Option<ValueType>) -> Result<(), Ground>
-    requires { length (waits (held waiting.old)) < room (held waiting.old) }
+    requires { (room (held waiting.old) ≡ 1024) × (length (waits (held waiting.old)) < 1024) }
     ensures does { outcome result (waits (held waiting.new)) ≡ replaced res (waits (held waiting.old)) }
-    ensures room { room (held waiting.new) ≡ room (held waiting.old) }
+    ensures room { room (held waiting.new) ≡ 1024 }
 {
     match res {
         Some(t) => wait(waiting, t),
@@ -54,8 +56,9 @@ fn replace(waiting: &mut Holder<ValueType>, res: Option<ValueType>) -> Result<()
 
 /// A code of one operand.
 fn on_one(code: u32, waiting: &mut Holder<ValueType>) -> Result<(), Ground>
+    requires { room (held waiting.old) ≡ 1024 }
     ensures does { outcome result (waits (held waiting.new)) ≡ on_one code (waits (held waiting.old)) }
-    ensures room { room (held waiting.new) ≡ room (held waiting.old) }
+    ensures room { room (held waiting.new) ≡ 1024 }
 {
     let Some(x) = waiting.pop() else {
         return Err(Ground::TooFewWaiting);
@@ -65,8 +68,9 @@ fn on_one(code: u32, waiting: &mut Holder<ValueType>) -> Result<(), Ground>
 
 /// A code of two operands; the second waits in front.
 fn on_two(code: u32, waiting: &mut Holder<ValueType>) -> Result<(), Ground>
+    requires { room (held waiting.old) ≡ 1024 }
     ensures does { outcome result (waits (held waiting.new)) ≡ on_two code (waits (held waiting.old)) }
-    ensures room { room (held waiting.new) ≡ room (held waiting.old) }
+    ensures room { room (held waiting.new) ≡ 1024 }
 {
     let Some(y) = waiting.pop() else {
         return Err(Ground::TooFewWaiting);
@@ -77,14 +81,11 @@ fn on_two(code: u32, waiting: &mut Holder<ValueType>) -> Result<(), Ground>
     replace(waiting, result_type(code, Operands::Two(x, y)))
 }
 
-/// One entry of an expression, where types wait; what waits after a refusal is not said.
-pub fn check_entry(
-    scope: &Scope,
-    entry: Entry,
-    waiting: &mut Holder<ValueType>,
-) -> Result<(), Ground>
-    ensures does { outcome result (waits (held waiting.new)) ≡ entry_within (room (held waiting.old)) (scope_of scope.now) entry (waits (held waiting.old)) }
-    ensures room { room (held waiting.new) ≡ room (held waiting.old) }
+/// One entry of an expression.
+fn check_entry(scope: &Scope, entry: Entry, waiting: &mut Holder<ValueType>) -> Result<(), Ground>
+    requires { room (held waiting.old) ≡ 1024 }
+    ensures does { outcome result (waits (held waiting.new)) ≡ after_entry (scope_of scope.now) entry (waits (held waiting.old)) }
+    ensures room { room (held waiting.new) ≡ 1024 }
 {
     match entry.left {
         4 => wait(waiting, ValueType::INT),

@@ -70,7 +70,7 @@ pub enum Cause {
 /// A refusal: the block, counted from 1 (0 where there is none), and the cause.
 #[derive(Clone, Copy)]
 pub struct Fault {
-    pub block: usize,
+    pub block: u32,
     pub cause: Cause,
 }
 
@@ -78,7 +78,7 @@ pub struct Fault {
 #[derive(Clone, Copy)]
 pub struct Report {
     pub number: u32,
-    pub block: usize,
+    pub block: u32,
     pub entry: usize,
     pub item: u32,
 }

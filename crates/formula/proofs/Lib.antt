@@ -1,5 +1,1 @@
 pub mod Sinks
-pub mod Mirrors
-pub mod Recipes
-pub mod Blocks
-pub mod Carries

@@ -1,27 +1,21 @@
 -- The formula of a routine, told to a sink.
-use Rattle.std.specs.Prelude.{◌≡◌, ℕ, suc, ◌<◌, ◌≤◌, Bool, true, false, List, length, Ok, Err}
+use Rattle.std.specs.Prelude.{◌≡◌, ℕ, suc, ◌<◌, ◌≤◌, Bool, true, false, List, length}
 use Rattle.world.specs.Tells.{Tell}
 use Rattle.world.specs.Worlds.{Reading}
 use Rattle.meaning.specs.Bound.{T}
 use Rattle.meaning.specs.Promise.{ReadingOf}
 use Rattle.meaning.specs.Routine.{Routine, Sound}
 use Rattle.meaning.specs.Runs.{HasConstants, RunOf, wrong}
-use Rattle.meaning.specs.Telling.{Fits, layout, start_values, telling, told}
+use Rattle.meaning.specs.Telling.{Fits, start_values, told}
 use Rattle.sink.specs.declared.Cause.{Cause}
 use Rattle.sink.specs.Causes.{Answer}
 use Rattle.sink.specs.Paths.{Follows, Stopped, entry_of}
-use Rattle.sink.specs.Runs.{Runs}
 
 -- The tells of the routine's telling took the sink from s to s', and e is the entry that was answered for the formula.
 pub record Written {S : Type 0} (steps : S → Tell → Answer → S → Type 0) (r : Routine) (s s' : S) (e : ℕ) : Type 0 where
   pub answers : List ℕ
   pub tells : Follows steps s (told r).1 s' answers
   pub entry_is : e ≡ entry_of answers (told r).0
-
--- Carried out along the steps of a sink, the telling of a routine writes its formula, or stops at one of the formula's tells.
-pub record Carried {S : Type 0} (steps : S → Tell → Answer → S → Type 0) : Type 0 where
-  pub written : (r : Routine) → Sound r → (s s' : S) (e : ℕ) → Runs steps s (telling r (layout r)) (Ok e) s' → Written steps r s s' e
-  pub stopped : (r : Routine) → Sound r → (s s' : S) (cause : Cause) → Runs steps s (telling r (layout r)) (Err cause) s' → Stopped steps (told r).1 s s' cause
 
 module _ {S V : Type 0} (watches : S → Reading V → Type 0) (entries : S → ℕ) (value : S → Reading V → ℕ → V) (takes : S → ℕ → Bool) (spare : S → ℕ) (steps : S → Tell → Answer → S → Type 0) where
   -- What the entry of a formula is worth.

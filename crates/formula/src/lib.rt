@@ -1,5 +1,5 @@
 //! A routine's formula in a sink: what the entry that the sink answered says of the routine's runs.
-ghost use Rattle.formula.specs.InSinks.{Carried, Holds};
+ghost use Rattle.formula.specs.InSinks.{Holds};
 
 use sink::Sink;
 
@@ -8,11 +8,4 @@ use sink::Sink;
 /// tells; and a sink that takes every code and has T to spare refuses none of them.
 pub fn formulas_hold<S: Sink>(sink: &S)
     ensures { Holds S.Sink.watches S.Sink.entries S.Sink.value S.Sink.takes S.Sink.spare S.Sink.steps }
-{}
-
-/// In every sink, new or used: the telling of a sound routine, carried out along the sink's own steps with the entries
-/// that the sink answers, tells exactly the routine's formula. Where it ends with an entry, that is the entry of the
-/// formula, and where it ends with a cause, the sink refused one of the formula's tells after the earlier ones.
-pub fn tellings_are_written<S: Sink>(sink: &S)
-    ensures { Carried S.Sink.steps }
 {}

@@ -21,11 +21,11 @@ module _ (sc : Scope) where
     nothing : Spelled [] []
     more : {ws : List ValueType} {es : List Entry} {x : Expression} {t : ValueType} → Spelled ws es → Typed sc x t → Spelled (t ∷ ws) (es ++ postfix x)
 
-  waiting_spelled : {ws : List ValueType} {es : List Entry} {x : Expression} {t : ValueType} → Spelled ws es → Typed sc x t → IfOk (waiting_for 1024 t ws) (λ vs. Spelled vs (es ++ postfix x))
+  waiting_spelled : {ws : List ValueType} {es : List Entry} {x : Expression} {t : ValueType} → Spelled ws es → Typed sc x t → IfOk (waiting_for t ws) (λ vs. Spelled vs (es ++ postfix x))
   waiting_spelled {ws} {es} {x} s d = cond_both (ltb (length ws) 1024) _ _ (λ r. IfOk r (λ vs. Spelled vs (es ++ postfix x))) (λ b. more s d) (λ b. tt)
 
   leaf_spelled : (ground : Ground) {ws : List ValueType} {es : List Entry} (x : Expression) (o : Option ValueType)
-      → Spelled ws es → ((t : ValueType) → o ≡ Some t → Typed sc x t) → IfOk (leaf 1024 ground o ws) (λ vs. Spelled vs (es ++ postfix x))
+      → Spelled ws es → ((t : ValueType) → o ≡ Some t → Typed sc x t) → IfOk (leaf ground o ws) (λ vs. Spelled vs (es ++ postfix x))
   leaf_spelled ground x None s d = tt
   leaf_spelled ground x (Some t) s d = waiting_spelled s (d t refl)
 

@@ -14,9 +14,7 @@ use Rattle.language.specs.Codes.{alike, between, bool}
 use Rattle.language.specs.Expressions.{Expression, word, literal, identifier, old, unary, binary, Typed, entry, postfix}
 use Rattle.language.specs.Checking.{Waiting, after_entry}
 use Rattle.language.specs.Commands.{Command, written, Callee, BodyScope, scope_in}
-use Rattle.language.specs.declared.Standing.{Standing}
-use Rattle.language.specs.declared.Standing.TheVariants.{Changeable, Fixed, Unmodified, Unknown}
-use Rattle.language.specs.Commands.{standing, distinct, covered}
+use Rattle.language.specs.Commands.{Standing, changeable, fixed, unmodified, unknown, standing, distinct, covered}
 use Rattle.language.specs.Lists.{member, Alike}
 use Rattle.language.specs.Commands.{Right, an_assignment, an_assertion, an_assumption, a_havoc, a_call, CommandPage}
 use Rattle.language.specs.CommandChecking.{Waits, nothing, Step, unless, remains, on_assign, on_condition, on_havoc, on_receiver, fit}
@@ -76,8 +74,8 @@ alike-length R (z ∷ xs) (w ∷ ys) a = let n = alike-length R xs ys a.1 in cc
 
 -- What is accepted is a page of right commands.
 module _ (b : BodyScope) where
-  abbrev MayChange : ℕ → Type 0
-  MayChange n = (t : ValueType) × (standing b n ≡ Changeable t)
+  abbrev Changeable : ℕ → Type 0
+  Changeable n = (t : ValueType) × (standing b n ≡ changeable t)
 
   -- The entries are those of right commands, then those of the waiting expressions, then those of the waiting receivers.
   record Stands (w : Waits) (es : List Entry) : Type 0 where
@@ -85,7 +83,7 @@ module _ (b : BodyScope) where
     values : List Entry
     earlier : CommandPage b page
     spelled : Spelled (scope_in b) w.types values
-    changeables : All MayChange w.receivers
+    changeables : All Changeable w.receivers
     apart : distinct w.receivers ≡ true
     are : es ≡ page ++ (values ++ map (entry 47) w.receivers)
 
@@ -124,11 +122,11 @@ module _ (b : BodyScope) where
       f x (subst (λ (u : ValueType). Typed (scope_in b) x u) same d) (ap (λ l. l ++ postfix x) first) empty.1))
 
   assign_stands : (name : ℕ) (s : Standing) → standing b name ≡ s → (w : Waits) {es : List Entry} → Stands w es → Good es (entry 40 name) (on_assign s w)
-  assign_stands name (Changeable t) i w k =
+  assign_stands name (changeable t) i w k =
       taking t w.receivers _ _ k.spelled (λ x d j n. finished (entry 40 name) k (an_assignment name i d) (rw (j, n, append-nil)))
-  assign_stands name (Fixed t) i w k = taking t w.receivers _ _ k.spelled (λ x d j n. tt)
-  assign_stands name (Unmodified t) i w k = taking t w.receivers _ _ k.spelled (λ x d j n. tt)
-  assign_stands name Unknown i w k = tt
+  assign_stands name (fixed t) i w k = taking t w.receivers _ _ k.spelled (λ x d j n. tt)
+  assign_stands name (unmodified t) i w k = taking t w.receivers _ _ k.spelled (λ x d j n. tt)
+  assign_stands name unknown i w k = tt
 
   assert_stands : (w : Waits) {es : List Entry} → Stands w es → Good es (entry 43 0) (on_condition w)
   assert_stands w k = taking bool w.receivers _ _ k.spelled (λ x d j n. finished (entry 43 0) k (an_assertion d) (rw (j, n, append-nil)))
@@ -137,30 +135,30 @@ module _ (b : BodyScope) where
   assume_stands w k = taking bool w.receivers _ _ k.spelled (λ x d j n. finished (entry 44 0) k (an_assumption d) (rw (j, n, append-nil)))
 
   havoc_stands : (name : ℕ) (s : Standing) → standing b name ≡ s → (w : Waits) {es : List Entry} → Stands w es → Good es (entry 45 name) (on_havoc s w)
-  havoc_stands name (Changeable t) i w {es} k =
+  havoc_stands name (changeable t) i w {es} k =
       cond_both (remains w.types w.receivers) _ _ (Good es (entry 45 name)) (λ j. tt) (λ j.
       let empty = nothing_remains w.types w.receivers j in
       let first : k.values ≡ [] = no_values k.spelled empty.0 in
       finished (entry 45 name) k (a_havoc name i) (rw (first, empty.1)))
-  havoc_stands name (Fixed t) i w {es} k = cond_both (remains w.types w.receivers) _ _ (Good es (entry 45 name)) (λ j. tt) (λ j. tt)
-  havoc_stands name (Unmodified t) i w {es} k = cond_both (remains w.types w.receivers) _ _ (Good es (entry 45 name)) (λ j. tt) (λ j. tt)
-  havoc_stands name Unknown i w k = tt
+  havoc_stands name (fixed t) i w {es} k = cond_both (remains w.types w.receivers) _ _ (Good es (entry 45 name)) (λ j. tt) (λ j. tt)
+  havoc_stands name (unmodified t) i w {es} k = cond_both (remains w.types w.receivers) _ _ (Good es (entry 45 name)) (λ j. tt) (λ j. tt)
+  havoc_stands name unknown i w k = tt
 
   receiver_stands : (name : ℕ) (s : Standing) → standing b name ≡ s → (w : Waits) {es : List Entry} → Stands w es → Good es (entry 47 name) (on_receiver s name w)
-  receiver_stands name (Changeable t) i w {es} k =
+  receiver_stands name (changeable t) i w {es} k =
       cond_both (member name w.receivers) _ _ (Good es (entry 47 name)) (λ j. tt) (λ j.
       record {
         page = k.page;
         values = k.values;
         earlier = k.earlier;
         spelled = k.spelled;
-        changeables = All-push MayChange w.receivers name k.changeables (t, i);
+        changeables = All-push Changeable w.receivers name k.changeables (t, i);
         apart = distinct_push name w.receivers k.apart j;
         are = simp (k.are, map_push, append_assoc);
       })
-  receiver_stands name (Fixed t) i w k = tt
-  receiver_stands name (Unmodified t) i w k = tt
-  receiver_stands name Unknown i w k = tt
+  receiver_stands name (fixed t) i w k = tt
+  receiver_stands name (unmodified t) i w k = tt
+  receiver_stands name unknown i w k = tt
 
   -- The waiting expressions in their order.
   record Ordered (ws : List ValueType) (es : List Entry) : Type 0 where
@@ -179,7 +177,7 @@ module _ (b : BodyScope) where
       }
 
   -- Receivers of right types, as many as there are out-parameters.
-  receiving : (rs : List ℕ) (ts : List ValueType) → All MayChange rs → received b rs ts ≡ true → length rs ≡ length ts → Alike (λ n t. standing b n ≡ Changeable t) rs ts
+  receiving : (rs : List ℕ) (ts : List ValueType) → All Changeable rs → received b rs ts ≡ true → length rs ≡ length ts → Alike (λ n t. standing b n ≡ changeable t) rs ts
   receiving [] [] a i n = tt
   receiving [] (t ∷ ts) a i n = absurd (omega arith)
   receiving (r ∷ rs) [] a i n = absurd (omega arith)
@@ -187,7 +185,7 @@ module _ (b : BodyScope) where
       let (s, j) = a.0 in
       let both = and_parts (receives (standing b r) t) (received b rs ts) i in
       let same : t ≡ s = same_type (ap (λ u. receives u t) (sym j) ∙ both.0) in
-      (j ∙ ap Changeable (sym same), receiving rs ts a.1 both.1 (omega arith))
+      (j ∙ ap changeable (sym same), receiving rs ts a.1 both.1 (omega arith))
 
   call_stands : (name : ℕ) (o : Option Callee) → b.callee name ≡ o → (w : Waits) {es : List Entry} → Stands w es → Good es (entry 46 name) (on_call b o w)
   call_stands name None i w k = tt
@@ -311,7 +309,7 @@ module _ (b : BodyScope) where
       let m = some_entry x in
       rw append_assoc (value_takes ws a.0 (omega arith) (arguments_take xs ts (t ∷ ws) a.1 (omega arith) l))
 
-  receivers-take : (new : List ℕ) (outs : List ValueType) (ts : List ValueType) (rs : List ℕ) {rest : List Entry} {u : Waits} → Alike (λ n t. standing b n ≡ Changeable t) new outs
+  receivers-take : (new : List ℕ) (outs : List ValueType) (ts : List ValueType) (rs : List ℕ) {rest : List Entry} {u : Waits} → Alike (λ n t. standing b n ≡ changeable t) new outs
       → distinct (rs ++ new) ≡ true → Takes rest (record { types = ts; receivers = rs ++ new }) u → Takes (map (entry 47) new ++ rest) (record { types = ts; receivers = rs }) u
   receivers-take [] [] ts rs a i l = rw append-nil at l
   receivers-take [] (o ∷ outs) ts rs a i l = absurd a
@@ -321,17 +319,17 @@ module _ (b : BodyScope) where
       let first : after_command b (entry 47 n) (record { types = ts; receivers = rs }) ≡ Ok (record { types = ts; receivers = rs ++ (n ∷ []) }) = rw (a.0, apart) in
       one first (receivers-take new outs ts (rs ++ (n ∷ [])) a.1 (rw append_assoc i) (rw append_assoc l))
 
-  received_all : (rs : List ℕ) (outs : List ValueType) → Alike (λ n t. standing b n ≡ Changeable t) rs outs → received b rs outs ≡ true
+  received_all : (rs : List ℕ) (outs : List ValueType) → Alike (λ n t. standing b n ≡ changeable t) rs outs → received b rs outs ≡ true
   received_all [] [] a = refl
   received_all [] (o ∷ outs) a = refl
   received_all (r ∷ rs) [] a = refl
   received_all (r ∷ rs) (o ∷ outs) a = let ih = received_all rs outs a.1 in rw (a.0, ih) (grind (arith, nat_tests))
 
-  call_taken : (name : ℕ) (q : Callee) (rs : List ℕ) → b.callee name ≡ Some q → Alike (λ n t. standing b n ≡ Changeable t) rs q.outs → covered b.modifies q.modifies ≡ true
+  call_taken : (name : ℕ) (q : Callee) (rs : List ℕ) → b.callee name ≡ Some q → Alike (λ n t. standing b n ≡ changeable t) rs q.outs → covered b.modifies q.modifies ≡ true
       → after_command b (entry 46 name) (record { types = reverse q.ins; receivers = rs }) ≡ Ok nothing
   call_taken name q rs i a c =
       let n = length-reverse q.ins in
-      let m = alike-length (λ n t. standing b n ≡ Changeable t) rs q.outs a in
+      let m = alike-length (λ n t. standing b n ≡ changeable t) rs q.outs a in
       let whole : take (length q.ins) (reverse q.ins) ≡ reverse q.ins = take_all (length q.ins) (reverse q.ins) (omega arith) in
       rw (i, n, whole, reverse-reverse, fits_itself, received_all rs q.outs a, c, m) (grind (arith, nat_tests))
 

@@ -14,13 +14,13 @@ use Rattle.language.specs.Expressions.{Scope, Postfix, type_of, old_type}
 abbrev pub Waiting : Type 0
 Waiting = Result (List ValueType) Ground
 
--- One value more, where there is room for so many.
-abbrev pub waiting_for : ℕ → ValueType → List ValueType → Waiting
-waiting_for room t ws = cond (nat_lt (length ws) room) (Ok (t ∷ ws)) (Err TooManyWaiting)
+-- One value more; at most 1,024 may wait.
+abbrev pub waiting_for : ValueType → List ValueType → Waiting
+waiting_for t ws = cond (nat_lt (length ws) 1024) (Ok (t ∷ ws)) (Err TooManyWaiting)
 
-abbrev pub leaf : ℕ → Ground → Option ValueType → List ValueType → Waiting
-leaf room ground None ws = Err ground
-leaf room ground (Some t) ws = waiting_for room t ws
+abbrev pub leaf : Ground → Option ValueType → List ValueType → Waiting
+leaf ground None ws = Err ground
+leaf ground (Some t) ws = waiting_for t ws
 
 -- The result in the place of its operands.
 abbrev pub replaced : Option ValueType → List ValueType → Waiting
@@ -36,21 +36,17 @@ on_two code [] = Err TooFewWaiting
 on_two code (y ∷ []) = Err TooFewWaiting
 on_two code (y ∷ x ∷ ws) = replaced (binary_type code x y) ws
 
--- One entry, where so many values may wait. Codes 4, 5 and 8 carry an argument, the others 0; 8 stands only where `old` may.
-abbrev pub entry_within : ℕ → Scope → Entry → List ValueType → Waiting
-entry_within room sc e ws =
-    cond (e.left == 4) (waiting_for room int ws)
-    (cond (e.left == 5) (leaf room NotUsable (type_of e.right sc.names) ws)
-    (cond (e.left == 8 && is_some sc.olds) (leaf room NotUsable (old_type e.right sc.olds) ws)
+-- One entry. Codes 4, 5 and 8 carry an argument, the others 0; 8 stands only where `old` may.
+abbrev pub after_entry : Scope → Entry → List ValueType → Waiting
+after_entry sc e ws =
+    cond (e.left == 4) (waiting_for int ws)
+    (cond (e.left == 5) (leaf NotUsable (type_of e.right sc.names) ws)
+    (cond (e.left == 8 && is_some sc.olds) (leaf NotUsable (old_type e.right sc.olds) ws)
     (cond (not (e.right == 0)) (Err Code)
-    (cond (between 1 3 e.left) (leaf room Code (word_type e.left) ws)
+    (cond (between 1 3 e.left) (leaf Code (word_type e.left) ws)
     (cond (between 12 13 e.left) (on_one e.left ws)
     (cond (between 14 29 e.left) (on_two e.left ws)
     (Err Code)))))))
-
--- In a page at most 1,024 values wait.
-abbrev pub after_entry : Scope → Entry → List ValueType → Waiting
-after_entry sc e ws = entry_within 1024 sc e ws
 
 abbrev pub located : Waiting → ℕ → ℕ → Result (List ValueType) Cause
 located (Ok ws) index item = Ok ws

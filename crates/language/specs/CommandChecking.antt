@@ -9,9 +9,7 @@ use Rattle.page.specs.declared.Entry.{Entry}
 use Rattle.language.specs.declared.ValueType.{ValueType}
 use Rattle.language.specs.Codes.{alike, between, bool}
 use Rattle.language.specs.Checking.{Waiting, after_entry}
-use Rattle.language.specs.declared.Standing.{Standing}
-use Rattle.language.specs.declared.Standing.TheVariants.{Changeable, Fixed, Unmodified, Unknown}
-use Rattle.language.specs.Commands.{BodyScope, Callee, CommandPage, covered, scope_in, standing}
+use Rattle.language.specs.Commands.{BodyScope, Callee, CommandPage, Standing, changeable, covered, fixed, scope_in, standing, unknown, unmodified}
 use Rattle.language.specs.Lists.{member}
 
 -- Types that wait, the last to come in front, and the names of receivers that wait, in their order.
@@ -37,10 +35,10 @@ remains (t ∷ ts) rs = true
 
 -- A name that a command is to change, once the command's other tests are passed.
 abbrev pub changed : Standing → Step → Step
-changed (Changeable t) rest = rest
-changed (Fixed t) rest = Err Unchangeable
-changed (Unmodified t) rest = Err NotModified
-changed Unknown rest = Err NotUsable
+changed (changeable t) rest = rest
+changed (fixed t) rest = Err Unchangeable
+changed (unmodified t) rest = Err NotModified
+changed unknown rest = Err NotUsable
 
 -- An assignment: the name must mean something; then the waiting value, its type, what is left, and the name once more.
 abbrev pub assigning : ValueType → Standing → Waits → Step
@@ -51,10 +49,10 @@ assigning t s w =
     ]
 
 abbrev pub on_assign : Standing → Waits → Step
-on_assign (Changeable t) w = assigning t (Changeable t) w
-on_assign (Fixed t) w = assigning t (Fixed t) w
-on_assign (Unmodified t) w = assigning t (Unmodified t) w
-on_assign Unknown w = Err NotUsable
+on_assign (changeable t) w = assigning t (changeable t) w
+on_assign (fixed t) w = assigning t (fixed t) w
+on_assign (unmodified t) w = assigning t (unmodified t) w
+on_assign unknown w = Err NotUsable
 
 -- Assert and assume take one bool.
 abbrev pub on_condition : Waits → Step
@@ -68,10 +66,10 @@ abbrev pub havocking : Standing → Waits → Step
 havocking s w = unless (remains w.types w.receivers) Remaining (changed s (Ok nothing))
 
 abbrev pub on_havoc : Standing → Waits → Step
-on_havoc (Changeable t) w = havocking (Changeable t) w
-on_havoc (Fixed t) w = havocking (Fixed t) w
-on_havoc (Unmodified t) w = havocking (Unmodified t) w
-on_havoc Unknown w = Err NotUsable
+on_havoc (changeable t) w = havocking (changeable t) w
+on_havoc (fixed t) w = havocking (fixed t) w
+on_havoc (unmodified t) w = havocking (unmodified t) w
+on_havoc unknown w = Err NotUsable
 
 -- A receiver waits for its call; none may wait twice.
 abbrev pub on_receiver : Standing → ℕ → Waits → Step
@@ -87,10 +85,10 @@ fit (x ∷ xs) (t ∷ ts) = alike x t && fit xs ts
 
 -- The declared type of a receiver.
 abbrev pub receives : Standing → ValueType → Bool
-receives (Changeable s) t = alike t s
-receives (Fixed s) t = alike t s
-receives (Unmodified s) t = alike t s
-receives Unknown t = false
+receives (changeable s) t = alike t s
+receives (fixed s) t = alike t s
+receives (unmodified s) t = alike t s
+receives unknown t = false
 
 -- Out-parameters fit the receivers, in order while both last.
 abbrev pub received : BodyScope → List ℕ → List ValueType → Bool

@@ -2,8 +2,6 @@
 use Rattle.std.specs.Prelude.{◌≡◌, ℕ, Bool, true, false, cond, ◌&&◌, List, [], ◌∷◌, ◌++◌, map, Some, None, Option}
 use Rattle.std.specs.List.{flat_map, AllByRecursion as All}
 use Rattle.page.specs.declared.Entry.{Entry}
-use Rattle.language.specs.declared.Standing.{Standing}
-use Rattle.language.specs.declared.Standing.TheVariants.{Changeable, Fixed, Unmodified, Unknown}
 use Rattle.language.specs.declared.ValueType.{ValueType}
 use Rattle.language.specs.Codes.{bool}
 use Rattle.language.specs.Expressions.{Expression, Scope, Typed, entry, has, postfix, type_of}
@@ -45,22 +43,30 @@ pub record BodyScope : Type 0 where
 abbrev pub scope_in : BodyScope → Scope
 scope_in b = record { names = b.locals ++ ((b.ins ++ b.outs) ++ (b.globals ++ b.constants)); olds = None }
 
+-- What a name stands for, where a command is to change it: something of a type that may be changed; a constant or an in-parameter;
+-- a global that the procedure does not modify; or nothing.
+pub data Standing : Type 0 where
+  changeable : ValueType → Standing
+  fixed : ValueType → Standing
+  unmodified : ValueType → Standing
+  unknown : Standing
+
 abbrev pub either : Option ValueType → (ValueType → Standing) → Standing → Standing
 either None f rest = rest
 either (Some t) f rest = f t
 
 -- A global may be changed where the procedure modifies it.
 abbrev pub global : Bool → ValueType → Standing
-global true t = Changeable t
-global false t = Unmodified t
+global true t = changeable t
+global false t = unmodified t
 
 abbrev pub standing : BodyScope → ℕ → Standing
 standing b name =
-    either (type_of name b.locals) Changeable
-    (either (type_of name b.ins) Fixed
-    (either (type_of name b.outs) Changeable
+    either (type_of name b.locals) changeable
+    (either (type_of name b.ins) fixed
+    (either (type_of name b.outs) changeable
     (either (type_of name b.globals) (global (has name b.modifies))
-    (either (type_of name b.constants) Fixed Unknown))))
+    (either (type_of name b.constants) fixed unknown))))
 
 -- No name stands twice.
 abbrev pub distinct : List ℕ → Bool
@@ -75,13 +81,13 @@ covered own (e ∷ es) = has e.left own && covered own es
 -- The command is right in the body: values fit their variables, only what may be changed is changed, arguments and receivers fit the
 -- procedure's parameters, receivers differ, and what the procedure modifies the body's procedure modifies too.
 pub data Right (b : BodyScope) : Command → Type 0 where
-  an_assignment : (name : ℕ) {e : Expression} {t : ValueType} → standing b name ≡ Changeable t → Typed (scope_in b) e t → Right b (assign name e)
+  an_assignment : (name : ℕ) {e : Expression} {t : ValueType} → standing b name ≡ changeable t → Typed (scope_in b) e t → Right b (assign name e)
   an_assertion : {e : Expression} → Typed (scope_in b) e bool → Right b (assert e)
   an_assumption : {e : Expression} → Typed (scope_in b) e bool → Right b (assume e)
-  a_havoc : (name : ℕ) {t : ValueType} → standing b name ≡ Changeable t → Right b (havoc name)
+  a_havoc : (name : ℕ) {t : ValueType} → standing b name ≡ changeable t → Right b (havoc name)
   a_call : (name : ℕ) {arguments : List Expression} {receivers : List ℕ} (q : Callee) → b.callee name ≡ Some q
       → Alike (λ e t. Typed (scope_in b) e t) arguments q.ins
-      → Alike (λ n t. standing b n ≡ Changeable t) receivers q.outs
+      → Alike (λ n t. standing b n ≡ changeable t) receivers q.outs
       → distinct receivers ≡ true → covered b.modifies q.modifies ≡ true
       → Right b (call name arguments receivers)
 

@@ -1,4 +1,5 @@
 //! The types and the expression codes of the language.
+ghost use Rattle.language.specs.CommandChecking.{ExactCommands};
 ghost use Rattle.language.specs.Codes.{alike, result_of};
 ghost use Rattle.std.specs.Prelude.{◌≡◌};
 
@@ -23,19 +24,6 @@ impl ValueType {
     {
         self.number == other.number
     }
-}
-
-/// What a name stands for, where a command is to change it.
-#[derive(Clone, Copy)]
-pub enum Standing {
-    /// A local, an out-parameter or a modified global, of this type.
-    Changeable(ValueType),
-    /// A constant or an in-parameter.
-    Fixed(ValueType),
-    /// A global that the procedure does not modify.
-    Unmodified(ValueType),
-    /// Nothing.
-    Unknown,
 }
 
 /// The types of a code's operands, in their order.
@@ -72,3 +60,9 @@ pub fn result_type(code: u32, operands: Operands) -> Option<ValueType>
         _ => None,
     }
 }
+
+/// A command page of at most 1,024 entries is accepted, entry by entry, exactly where it is the postfix form of
+/// commands that are right in their body. (The check itself comes with the bodies.)
+pub fn command_pages_are_exact()
+    ensures { ExactCommands }
+{}

@@ -9,13 +9,6 @@ use Rattle.meaning.specs.Lists.{put, counted}
 pub none_some : {A : Type 0} {a : A} → None ≡ Some a → ⊥
 none_some e = let z : ◌≡◌ {A = ℕ} 0 1 = cc in omega arith
 
--- What is alike one way is alike another way that follows from it.
-pub alike_weaken : {A B : Type 0} (R Q : A → B → Type 0) → ((a : A) (b : B) → R a b → Q a b) → (xs : List A) (ys : List B) → Alike R xs ys → Alike Q xs ys
-alike_weaken R Q f [] [] h = tt
-alike_weaken R Q f [] (y ∷ ys) h = absurd h
-alike_weaken R Q f (x ∷ xs) [] h = absurd h
-alike_weaken R Q f (x ∷ xs) (y ∷ ys) h = (f x y h.0, alike_weaken R Q f xs ys h.1)
-
 module _ {A B : Type 0} (R : A → B → Type 0) where
   -- What stands at a place that the first list has.
   pub alike_at : (xs : List A) (ys : List B) (n : ℕ) (a : A) (d : B) → Alike R xs ys → slice_get xs n ≡ Some a → R a (get_or ys n d)

@@ -6,12 +6,11 @@ use Rattle.std.proofs.lemmas.Bool.{false≢true}
 use Rattle.language.specs.Codes.{bool}
 use Rattle.language.specs.Lists.{Alike}
 use Rattle.world.specs.Worlds.{World, Reading, OfTypes}
-use Rattle.world.specs.Tellings.{tell}
 use Rattle.world.specs.Tells.{Tell}
 use Rattle.meaning.specs.Lists.{In, here, later}
 use Rattle.meaning.specs.Routine.{Block, Routine, block, variables, values, SoundCommands, Sound}
-use Rattle.meaning.specs.Telling.{Check, tested, assumed, Passed, takes, Placed, layout, nowhere, place, Begun, tell_return, tell_block, tell_if_reached, forward, tell_links, unbegun, tell_targets, tell_checks, tell_formula, backward, symbols_at}
-use Rattle.meaning.proofs.Alikes.{alike_weaken, alike-append, both_at, drop_next, drop_some, drop_first}
+use Rattle.meaning.specs.Telling.{tell, Check, tested, assumed, Passed, takes, Placed, layout, nowhere, place, Begun, tell_return, tell_block, tell_if_reached, forward, tell_links, unbegun, tell_targets, tell_checks, tell_formula, backward, symbols_at}
+use Rattle.meaning.proofs.Alikes.{alike-append, both_at, drop_next, drop_some, drop_first}
 use Rattle.meaning.proofs.Passes.{pass, holds, after, linked, joined, own_checks, block_formula, formulas}
 use Rattle.meaning.proofs.Types.{Constants, looks, truly_false, truly_true, return_bools}
 use Rattle.meaning.proofs.Places.{place_block, layout-length, target_reached}
@@ -139,7 +138,10 @@ module _ {V : Type 0} (q : Reading V) where
 
     -- Such blocks stay known.
     pub all_maybe_ext : {s s' : List Tell} (xs : List (Begun ℕ)) (bs : List Placed) → Extends s s' → Alike (MaybeBegun s) xs bs → Alike (MaybeBegun s') xs bs
-    all_maybe_ext xs bs e h = alike_weaken _ _ (λ x b k. maybe_ext x b e k) xs bs h
+    all_maybe_ext [] [] e h = tt
+    all_maybe_ext [] (b ∷ bs) e h = absurd h
+    all_maybe_ext (x ∷ xs) [] e h = absurd h
+    all_maybe_ext (x ∷ xs) (b ∷ bs) e h = (maybe_ext x b e h.0, all_maybe_ext xs bs e h.1)
 
     one_ok : (c : Bool) (b : Placed) → b.reached ≡ c → Ready b → (start : List ℕ) (s : List Tell) → KnowsAll q start_v s start → Ok q s (tell_if_reached r start b c) (λ s' x. MaybeBegun s' x b)
     one_ok false b e R start s k = ok_answer q _ (record { the_place = refl; if_reached = λ re. absurd (false≢true (sym e ∙ re)) })

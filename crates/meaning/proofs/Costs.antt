@@ -3,38 +3,34 @@ use Rattle.std.proofs.Common.{◌≡◌, ℕ, zero, suc, ◌+◌, ◌-◌, ◌*�
 use Rattle.std.proofs.lemmas.List.{length-append, length-map}
 use Rattle.language.specs.Lists.{Alike}
 use Rattle.world.specs.Tells.{Tell}
-use Rattle.world.specs.Tellings.{Telling, answer, ◌>>=◌, tell, numbered}
 use Rattle.meaning.specs.Routine.{Expression, leaf, constant, variable, before, one, two, Command, assign, assert, assume, havoc, call, Block, Procedure, Routine, no_block, procedure, variables, SoundCommands, Sound}
-use Rattle.meaning.specs.Telling.{tell_symbols, tell_value, tell_values, Check, tested, assumed, Passed, tell_commands, takes, Placed, member, places, layout, Begun, tell_return, tell_block, tell_if_reached, forward, tell_links, unbegun, tell_targets, tell_checks, tell_formula, backward, telling, told}
+use Rattle.meaning.specs.Telling.{Telling, answer, ◌>>=◌, tell, tell_symbols, tell_value, tell_values, Check, tested, assumed, Passed, tell_commands, takes, Placed, member, places, layout, Begun, tell_return, tell_block, tell_if_reached, forward, tell_links, unbegun, tell_targets, tell_checks, tell_formula, backward, telling, told}
 use Rattle.meaning.specs.Bound.{size, sizes, weight, entries, called, returning, total, T}
 use Rattle.meaning.proofs.Alikes.{alike-length}
-use Rattle.meaning.proofs.Oks.{numbered-bind}
 
 -- The telling makes at most n tells, and its answer is P.
 record Costs {A : Type 0} (m : Telling A) (n : ℕ) (P : A → Type 0) : Type 0 where
-  pub most : (s : List Tell) → length (numbered m s).1 ≤ length s + n
-  pub post : (s : List Tell) → P (numbered m s).0
+  pub most : (s : List Tell) → length (m s).1 ≤ length s + n
+  pub post : (s : List Tell) → P (m s).0
 
 cost_answer : {A : Type 0} {P : A → Type 0} (a : A) → P a → Costs (answer a) 0 P
-unfolding answer numbered
+unfolding answer
 cost_answer a h = record { most = λ s. omega arith; post = λ s. h }
 
 cost_tell : (c a : ℕ) (es : List ℕ) → Costs (tell c a es) 1 (λ e. Unit {0})
-unfolding tell numbered
+unfolding tell
 cost_tell c a es = record { most = λ s. omega arith; post = λ s. tt }
 
 cost_bind : {A B : Type 0} {m : Telling A} {f : A → Telling B} (a b : ℕ) {Q : B → Type 0} (P : A → Type 0) → Costs m a P → ((x : A) → P x → Costs (f x) b Q) → Costs (m >>= f) (a + b) Q
+unfolding ◌>>=◌
 cost_bind {m = m} {f = f} a b P h k =
-    record {
-      most = λ s. rw (numbered-bind m f s) (bound (length s) (length (numbered m s).1) _ (h.most s) ((k (numbered m s).0 (h.post s)).most (numbered m s).1));
-      post = λ s. rw (numbered-bind m f s) ((k (numbered m s).0 (h.post s)).post (numbered m s).1);
-    }
+    record { most = λ s. bound (length s) (length (m s).1) _ (h.most s) ((k (m s).0 (h.post s)).most (m s).1); post = λ s. (k (m s).0 (h.post s)).post (m s).1 }
   where
     bound : (x y z : ℕ) → y ≤ x + a → z ≤ y + b → z ≤ x + (a + b)
     bound x y z g h = omega arith
 
 cost_more : {A : Type 0} {m : Telling A} (a b : ℕ) {P : A → Type 0} → a ≤ b → Costs m a P → Costs m b P
-cost_more {m = m} a b l h = record { most = λ s. go (length s) (length (numbered m s).1) (h.most s); post = h.post }
+cost_more {m = m} a b l h = record { most = λ s. go (length s) (length (m s).1) (h.most s); post = h.post }
   where
     go : (x y : ℕ) → y ≤ x + a → y ≤ x + b
     go x y g = omega arith
@@ -282,8 +278,8 @@ pub at_most_t : (r : Routine) → Sound r → length (told r).1 ≤ T r
 at_most_t r S = go (layout r) refl
   where
     go : (l : List Placed) → layout r ≡ l → length (told r).1 ≤ T r
-    go [] e = rw e (let h : length (numbered (answer {A = ℕ} 0) []).1 ≤ 0 + 0 = (cost_answer {A = ℕ} {P = λ x. Unit {0}} 0 tt).most [] in omega arith)
+    go [] e = rw e (let h : length (answer {A = ℕ} 0 []).1 ≤ 0 + 0 = (cost_answer {A = ℕ} {P = λ x. Unit {0}} 0 tt).most [] in omega arith)
     go (b ∷ bs) e =
-        let h : length (numbered (telling r (b ∷ bs)) []).1 ≤ 0 + _ = (telling_cost r b bs).most [] in
+        let h : length (telling r (b ∷ bs) []).1 ≤ 0 + _ = (telling_cost r b bs).most [] in
         let g : fsum r (b ∷ bs) + bsum r (b ∷ bs) ≤ most r r.blocks = subst (λ (l : List Placed). fsum r l + bsum r l ≤ most r r.blocks) e (sums r r.blocks _ 0 0 S.commands_sound) in
         rw e (omega arith)

@@ -4,12 +4,11 @@ use mathlib.Core.Bool.{beq}
 use Rattle.std.proofs.lemmas.Bool.{false≢true}
 use Rattle.language.specs.declared.ValueType.{ValueType}
 use Rattle.language.specs.Codes.{bool}
-use Rattle.world.specs.Tellings.{answer, ◌>>=◌, tell, numbered}
 use Rattle.world.specs.Worlds.{World, Reading, OfTypes}
 use Rattle.meaning.specs.Lists.{counted}
 use Rattle.meaning.specs.Routine.{leaf, Command, block, Typed, leaf_typed, SoundCommands, TargetsLater, Sound}
 use Rattle.meaning.specs.Runs.{none_left, asserts_false}
-use Rattle.meaning.specs.Telling.{layout, formula_value, symbol_types}
+use Rattle.meaning.specs.Telling.{answer, ◌>>=◌, tell, layout, formula_value, symbol_types}
 use Rattle.meaning.specs.Examples.{just_one, fails, succeeds, AllFits, Examples}
 use Rattle.meaning.proofs.Alikes.{none_some}
 
@@ -92,11 +91,11 @@ falsity : {cs ts os : List ValueType} → Typed cs ts os (leaf 1 0) bool
 falsity = leaf_typed 1 0 refl
 
 fails_value : {V : Type 0} (q : Reading V) → formula_value q fails ≡ q.world.truth false
-unfolding ◌>>=◌ tell answer numbered
+unfolding ◌>>=◌ tell answer
 fails_value q = rw (q.world.false_is, q.world.true_is) (q.world.and_is false true)
 
 succeeds_value : {V : Type 0} (q : Reading V) → formula_value q succeeds ≡ q.world.truth true
-unfolding ◌>>=◌ tell answer numbered
+unfolding ◌>>=◌ tell answer
 succeeds_value q = rw (q.world.false_is, q.world.true_is, q.world.and_is false true) (q.world.implies_is false false)
 
 -- The examples, over any type of values.

@@ -5,23 +5,15 @@ use Rattle.std.proofs.lemmas.Bool.{eq-eqb, ne_eqb}
 use Rattle.language.specs.Lists.{Alike}
 use Rattle.world.specs.Worlds.{Reading}
 use Rattle.world.specs.Tells.{Tell, arity, meant, Binds}
-use Rattle.world.specs.Tellings.{Telling, done, asks, answer, ◌>>=◌, tell, numbered}
-use Rattle.meaning.specs.Telling.{told_value, Lawful}
-use Rattle.meaning.proofs.Alikes.{alike_weaken}
+use Rattle.meaning.specs.Telling.{Telling, answer, ◌>>=◌, tell, told_value, Lawful}
 
--- The tells of one telling after another, by their numbers.
-pub numbered-bind : {A B : Type 0} (m : Telling A) (f : A → Telling B) (s : List Tell) → numbered (m >>= f) s ≡ numbered (f (numbered m s).0) (numbered m s).1
-unfolding ◌>>=◌ numbered
-numbered-bind (done a) f s = refl
-numbered-bind (asks t k) f s = numbered-bind (k (length s)) f (t ∷ s)
-
--- The second list is the first with others after it, the last one first.
-pub data Extends {A : Type 0} (s : List A) : List A → Type 0 where
+-- The second tells are the first and others after them.
+pub data Extends (s : List Tell) : List Tell → Type 0 where
   unchanged : Extends s s
-  extended : {s' : List A} (t : A) → Extends s s' → Extends s (t ∷ s')
+  extended : {s' : List Tell} (t : Tell) → Extends s s' → Extends s (t ∷ s')
 
 -- One extension after another.
-pub ext_trans : {A : Type 0} {a b c : List A} → Extends a b → Extends b c → Extends a c
+pub ext_trans : {a b c : List Tell} → Extends a b → Extends b c → Extends a c
 ext_trans x unchanged = x
 ext_trans x (extended t y) = extended t (ext_trans x y)
 
@@ -45,29 +37,32 @@ module _ {V : Type 0} (q : Reading V) where
 
   -- Of several too.
   pub all_ext : {s s' : List Tell} (es : List ℕ) (vs : List V) → Extends s s' → KnowsAll vs s es → KnowsAll vs s' es
-  all_ext es vs x h = alike_weaken _ _ (λ e v k. knows_ext e v x k) es vs h
+  all_ext [] [] x h = tt
+  all_ext [] (v ∷ vs) x h = absurd h
+  all_ext (e ∷ es) [] x h = absurd h
+  all_ext (e ∷ es) (v ∷ vs) x h = (knows_ext e v x h.0, all_ext es vs x h.1)
 
   -- From the tells s the telling m only adds tells, keeps them lawful, and ends with Q.
   pub record Ok {A : Type 0} (s : List Tell) (m : Telling A) (Q : List Tell → A → Type 0) : Type 0 where
-    pub grows : Extends s (numbered m s).1
-    pub lawful : Lawful q s → Lawful q (numbered m s).1
-    pub post : Q (numbered m s).1 (numbered m s).0
+    pub grows : Extends s (m s).1
+    pub lawful : Lawful q s → Lawful q (m s).1
+    pub post : Q (m s).1 (m s).0
 
   -- An answer.
   pub ok_answer : {A : Type 0} {s : List Tell} {Q : List Tell → A → Type 0} (a : A) → Q s a → Ok s (answer a) Q
-  unfolding answer numbered
+  unfolding answer
   ok_answer a h = record { grows = unchanged; lawful = λ l. l; post = h }
 
   -- One telling after another.
   pub ok_bind : {A B : Type 0} {s : List Tell} {m : Telling A} {f : A → Telling B} {Q : List Tell → B → Type 0} (P : List Tell → A → Type 0) → Ok s m P → ((a : A) (s' : List Tell) → Extends s s' → P s' a → Ok s' (f a) Q) → Ok s (m >>= f) Q
-  ok_bind {s = s} {m = m} {f = f} P x k =
-      let y = k (numbered m s).0 (numbered m s).1 x.grows x.post in
-      let e = numbered-bind m f s in
-      record { grows = rw e (ext_trans x.grows y.grows); lawful = λ l. rw e (y.lawful (x.lawful l)); post = rw e y.post }
+  unfolding ◌>>=◌
+  ok_bind {s = s} {m = m} P x k =
+      let y = k (m s).0 (m s).1 x.grows x.post in
+      record { grows = ext_trans x.grows y.grows; lawful = λ l. y.lawful (x.lawful l); post = y.post }
 
   -- A weaker end.
   pub ok_weaken : {A : Type 0} {s : List Tell} {m : Telling A} (P : List Tell → A → Type 0) {Q : List Tell → A → Type 0} → Ok s m P → ((a : A) (s' : List Tell) → P s' a → Q s' a) → Ok s m Q
-  ok_weaken {s = s} {m = m} P x k = record { grows = x.grows; lawful = x.lawful; post = k (numbered m s).0 (numbered m s).1 x.post }
+  ok_weaken {s = s} {m = m} P x k = record { grows = x.grows; lawful = x.lawful; post = k (m s).0 (m s).1 x.post }
 
   known_values : (s : List Tell) (es : List ℕ) (vs : List V) → KnowsAll vs s es → map (told_value q s) es ≡ vs
   known_values s [] [] h = refl
@@ -82,7 +77,7 @@ module _ {V : Type 0} (q : Reading V) where
 
   -- One tell, which the reading binds.
   pub ok_tell : {s : List Tell} (c a : ℕ) (es : List ℕ) (vs : List V) → arity c ≡ Some (length es) → KnowsAll vs s es → Binds q c vs → Ok s (tell c a es) (Knows (meant q c a vs))
-  unfolding tell numbered
+  unfolding tell
   ok_tell {s} c a es vs n h b =
       record {
         grows = extended _ unchanged;

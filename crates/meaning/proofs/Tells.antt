@@ -5,13 +5,12 @@ use Rattle.language.specs.declared.ValueType.{ValueType}
 use Rattle.language.specs.Codes.{bool}
 use Rattle.language.specs.Lists.{Alike}
 use Rattle.world.specs.Worlds.{World, Reading, OfTypes, result}
-use Rattle.world.specs.Tellings.{tell}
 use Rattle.world.specs.Tells.{Tell, Binds}
 use Rattle.meaning.specs.Lists.{put}
 use Rattle.meaning.specs.Routine.{Expression, Command, assign, assert, assume, havoc, call, Routine, procedure, variables, view, value, values, Typed, leaf_typed, constant_typed, variable_typed, before_typed, one_typed, two_typed, AllTyped, Clauses, SoundCommands}
 use Rattle.meaning.specs.Runs.{on_entry, on_exit}
-use Rattle.meaning.specs.Telling.{tell_symbols, tell_value, tell_values, Check, tested, assumed, Passed, first_checks, tell_commands, takes, symbols_at}
-use Rattle.meaning.proofs.Alikes.{none_some, alike_weaken, alike_set, alike-append, both-set, both-put, both-take}
+use Rattle.meaning.specs.Telling.{tell, tell_symbols, tell_value, tell_values, Check, tested, assumed, Passed, first_checks, tell_commands, takes, symbols_at}
+use Rattle.meaning.proofs.Alikes.{none_some, alike_set, alike-append, both-set, both-put, both-take}
 use Rattle.meaning.proofs.Passes.{pass}
 use Rattle.meaning.proofs.Types.{nth_left, get_or-nth, Looks, Constants, looks, looks_none, looks_left, value_typed, Bools, view_typed, entry_bools, exit_bools, expression_typed, arguments_typed}
 use Rattle.meaning.proofs.Calls.{taken, given, call_typed}
@@ -110,7 +109,10 @@ module _ {V : Type 0} (q : Reading V) where
 
   -- Conditions stay known.
   pub all_checked_ext : {s s' : List Tell} (cs : List (Check ℕ)) (ds : List (Check V)) → Extends s s' → Alike (Checked s) cs ds → Alike (Checked s') cs ds
-  all_checked_ext cs ds x h = alike_weaken _ _ (λ c d k. checked_ext c d x k) cs ds h
+  all_checked_ext [] [] x h = tt
+  all_checked_ext [] (d ∷ ds) x h = absurd h
+  all_checked_ext (c ∷ cs) [] x h = absurd h
+  all_checked_ext (c ∷ cs) (d ∷ ds) x h = (checked_ext c d x h.0, all_checked_ext cs ds x h.1)
 
   -- Known clauses, tested.
   pub tests_checked : (s : List Tell) (es : List ℕ) (vs : List V) → KnowsAll q vs s es → Bools w vs → Alike (Checked s) (map tested es) (map tested vs)

@@ -2,7 +2,6 @@
 use Rattle.std.proofs.Common.{◌≡◌, ℕ, suc, ◌+◌, ◌<◌, Bool, true, false, List, [], ◌∷◌, ◌++◌, map, length, get_or, drop, sym, refl, ap, ◌∙◌, subst, zero-add, arith}
 use Rattle.std.proofs.lemmas.List.{append-nil}
 use Rattle.language.specs.Lists.{Alike}
-use Rattle.world.specs.Tellings.{numbered}
 use Rattle.world.specs.Worlds.{World, Reading, OfTypes}
 use Rattle.meaning.specs.Routine.{Block, Routine, block, variables, values, SoundCommands, Sound}
 use Rattle.meaning.specs.Runs.{wrong, Tested, Run, HasConstants, RunOf}
@@ -100,7 +99,7 @@ module _ {V : Type 0} (q : Reading V) (r : Routine) (S : Sound r) (C : HasConsta
     where
       go : (l : List Placed) → layout r ≡ l → formula_value q r ≡ w.truth (whole (here_formula q r start_v 0 (length (variables r)) start_v (block r 0).commands))
       go [] e = absurd (some_layout r S e)
-      go (b ∷ bs) e = rw (← first-is b bs e) (subst (λ (l : List Placed). told_value q (numbered (telling r l) []).1 (numbered (telling r l) []).0 ≡ w.truth (whole (first_formula b bs))) (sym e) (telling_ok b bs e).post.value)
+      go (b ∷ bs) e = rw (← first-is b bs e) (subst (λ (l : List Placed). told_value q (telling r l []).1 (telling r l []).0 ≡ w.truth (whole (first_formula b bs))) (sym e) (telling_ok b bs e).post.value)
 
   false_run : formula_value q r ≡ w.truth false → RunOf r w start_v wrong
   unfolding whole axioms_v requires_v formula_of
@@ -141,4 +140,4 @@ told_lawfully V r S q C F = go (layout r) refl
   where
     go : (l : List Placed) → layout r ≡ l → Lawful q (told r).1 × ((told r).0 < length (told r).1)
     go [] e = absurd (some_layout r S e)
-    go (b ∷ bs) e = subst (λ (l : List Placed). Lawful q (numbered (telling r l) []).1 × ((numbered (telling r l) []).0 < length (numbered (telling r l) []).1)) (sym e) ((telling_ok q r S C (fits_each q r F) b bs e).lawful tt, (telling_ok q r S C (fits_each q r F) b bs e).post.entry)
+    go (b ∷ bs) e = subst (λ (l : List Placed). Lawful q (telling r l []).1 × ((telling r l []).0 < length (telling r l []).1)) (sym e) ((telling_ok q r S C (fits_each q r F) b bs e).lawful tt, (telling_ok q r S C (fits_each q r F) b bs e).post.entry)

@@ -5,9 +5,26 @@ use Rattle.language.specs.declared.ValueType.{ValueType}
 use Rattle.language.specs.Codes.{bool}
 use Rattle.world.specs.Worlds.{Reading, OfTypes}
 use Rattle.world.specs.Tells.{Tell, arity, meant, Binds}
-use Rattle.world.specs.Tellings.{Telling, answer, ◌>>=◌, tell, numbered}
 use Rattle.meaning.specs.Lists.{put, counted}
 use Rattle.meaning.specs.Routine.{Expression, leaf, constant, variable, before, one, two, Command, assign, assert, assume, havoc, call, Block, Routine, no_block, procedure, variables, view, modified_types}
+
+-- A telling takes the tells so far, the last one first, to an answer and the tells after it.
+-- A tell goes by its number, counted from 0, and operands are such numbers.
+abbrev pub Telling : Type 0 → Type 0
+Telling A = List Tell → A × List Tell
+
+-- Answers, and tells nothing.
+unfoldable pub answer : {A : Type 0} → A → Telling A
+answer a s = (a, s)
+
+infixl 10 ◌>>=◌
+-- One telling after another, the second made from the answer of the first.
+unfoldable pub ◌>>=◌ : {A B : Type 0} → Telling A → (A → Telling B) → Telling B
+◌>>=◌ m f s = f (m s).0 (m s).1
+
+-- One tell, which answers its number.
+unfoldable pub tell : ℕ → ℕ → List ℕ → Telling ℕ
+tell c a es s = (length s, record { code = c; argument = a; operands = es } ∷ s)
 
 -- Tells m symbols from number n on.
 abbrev pub tell_symbols : ℕ → ℕ → Telling (List ℕ)
@@ -217,7 +234,7 @@ telling r (b ∷ bs) = do
 
 -- The formula of a routine: its number among the tells, and the tells, the last one first.
 abbrev pub told : Routine → ℕ × List Tell
-told r = numbered (telling r (layout r)) []
+told r = telling r (layout r) []
 
 -- The value of tell number e in a reading.
 abbrev pub told_value : {V : Type 0} → Reading V → List Tell → ℕ → V

@@ -9,8 +9,6 @@ ghost use Rattle.records.specs.Held.{book_of};
 ghost use Rattle.std.specs.List.{prefix_len};
 ghost use Rattle.std.specs.Prelude.{◌≡◌, ◌||◌, []};
 
-use page::Entry;
-use records::find::find_type;
 use records::lists::{DeclarationKind, HeldBook};
 
 /// Is this number a name?
@@ -65,7 +63,7 @@ pub fn leading_bare_names(left: &[u32], right: &[u32]) -> usize
 }
 
 /// Is this number among these?
-pub fn is_member(numbers: &[u32], number: u32) -> bool
+fn is_member(numbers: &[u32], number: u32) -> bool
     ensures { result ≡ member number numbers.now }
 {
     for x in numbers {
@@ -74,25 +72,6 @@ pub fn is_member(numbers: &[u32], number: u32) -> bool
         }
     }
     false
-}
-
-/// Is this the name of one of these entries, or among those before it?
-fn repeats(taken: &[Entry], before: &[u32], name: u32) -> bool
-    ensures { result ≡ (has name taken.now || member name before.now) }
-{
-    find_type(taken, name).is_some() || is_member(before, name)
-}
-
-/// How many of these come before the first that is the name of one of the entries, or that stands among those before it.
-pub fn leading_new(taken: &[Entry], names: &[u32]) -> usize
-    ensures { result ≡ fresh taken.now [] names.now }
-{
-    for i in 0..names.len() {
-        if repeats(taken, &names[0..i], names[i]) {
-            return i;
-        }
-    }
-    names.len()
 }
 
 /// Some names of a book.

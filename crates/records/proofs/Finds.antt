@@ -1,7 +1,7 @@
 -- Laws of look-ups.
 use Rattle.std.proofs.Common.{◌≡◌, ℕ, ◌+◌, ◌-◌, ◌<◌, ◌≤◌, min, Bool, true, false, cond, eqb, ◌⊎◌, List, [], ◌∷◌, ◌++◌, map, length, get_or, take, drop, Some, None, Option, sym, refl, ap, ◌∙◌, inl, inr, arith}
 use Rattle.std.proofs.lemmas.List.{at_drop_all, at_drop_more, drop_all, length-drop, take_all}
-use Rattle.std.proofs.lemmas.Bool.{cases_lt, cond-false, cond-true, eq-eqb, ne_eqb}
+use Rattle.std.proofs.lemmas.Bool.{cases_lt}
 use Rattle.std.proofs.lemmas.Bool.Decides.{nat_tests}
 use Rattle.std.specs.List.{flat_map}
 use Rattle.page.specs.declared.Entry.{Entry}
@@ -11,7 +11,7 @@ use Rattle.records.specs.declared.lists.Clause.{Clause}
 use Rattle.records.specs.declared.lists.ClauseKind.{ClauseKind}
 use Rattle.records.specs.declared.lists.Declaration.{Declaration}
 use Rattle.records.specs.declared.lists.DeclarationKind.TheVariants.{Procedure}
-use Rattle.records.specs.Book.{Book, Declared, Numbered, belongs, numbered_at, numbered_from, procedure_at, procedure_named, procedures, procedures_in, stated_as}
+use Rattle.records.specs.Book.{Declared, Numbered, belongs, numbered_from, procedures_in, stated_as}
 use Rattle.records.specs.Found.{or_else}
 use Rattle.records.specs.Held.{declared_in, stated_in}
 use Rattle.records.specs.Kinds.{same_declaration}
@@ -104,30 +104,6 @@ module _ (name : ℕ) (es : List Entry) (ds : List Declaration) (i number : ℕ)
   pub procedure_none : length ds ≤ i → None ≡ whole
   procedure_none h = sym (at_drop_all (λ l. numbered_from number name (procedures_in (map (declared_in es) l))) ds i h) ∙ inv
 
--- A search for the procedure of a number that has come to the declaration at i, so many procedures being left before it; `whole` is what it is to answer.
-module _ (number : ℕ) (es : List Entry) (ds : List Declaration) (i left : ℕ) (whole : Option Numbered)
-    (inv : numbered_at number left (procedures_in (map (declared_in es) (drop i ds))) ≡ whole) where
-  abbrev candidate : Declaration
-  candidate = get_or ds i no_declaration
-
-  sought : i < length ds → numbered_at number left (procedures_in (map (declared_in es) (candidate ∷ drop (i + 1) ds))) ≡ whole
-  sought h = sym (at_drop_more (λ l. numbered_at number left (procedures_in (map (declared_in es) l))) ds i no_declaration h) ∙ inv
-
-  pub place_found : i < length ds → true ≡ same_declaration candidate.kind Procedure → left ≡ 0
-      → Some (record { number = number; ins = candidate.a; parameters = take (candidate.a + candidate.b) (drop candidate.start es) }) ≡ whole
-  place_found h e n = let s = sought h in grind (arith, nat_tests)
-
-  pub place_passed : i < length ds → true ≡ same_declaration candidate.kind Procedure → (left ≡ 0 → ⊥) → (m : ℕ) → m ≡ left - 1
-      → numbered_at number m (procedures_in (map (declared_in es) (drop (i + 1) ds))) ≡ whole
-  place_passed h e n m k = let s = sought h in grind (arith, nat_tests)
-
-  pub place_other : i < length ds → false ≡ same_declaration candidate.kind Procedure → (m : ℕ) → m ≡ left
-      → numbered_at number m (procedures_in (map (declared_in es) (drop (i + 1) ds))) ≡ whole
-  place_other h e m k = let s = sought h in grind (arith, nat_tests)
-
-  pub place_none : length ds ≤ i → None ≡ whole
-  place_none h = sym (at_drop_all (λ l. numbered_at number left (procedures_in (map (declared_in es) l))) ds i h) ∙ inv
-
 -- What the first list has is found there; else it is what the second has.
 pub type_of_first : (name : ℕ) (xs ys : List Entry) (t : ValueType) → Some t ≡ type_of name xs → Some t ≡ type_of name (xs ++ ys)
 type_of_first name xs ys t e = ap (λ (o : Option ValueType). or_else o (type_of name ys)) e ∙ sym (type_of-append name xs ys)
@@ -144,27 +120,3 @@ numbered_below number name (p ∷ ps) q e = by (eqb p.name name) e (λ h. number
         → (Some q ≡ numbered_from (number + 1) name ps → q.number < (number + 1) + length ps) → q.number < number + length (p ∷ ps)
     by true i f = let n : q.number ≡ number = cc in omega arith
     by false i f = let l = f i in omega arith
-
--- The procedure that is found by its name is the one at its number; the first of these has that number.
-numbered_at_lem : (number name : ℕ) (ps : List Declared) (q : Numbered) → numbered_from number name ps ≡ Some q
-    → (number ≤ q.number) × (numbered_at q.number (q.number - number) ps ≡ Some q)
-numbered_at_lem number name [] q e = let z : ◌≡◌ {A = ℕ} 0 1 = cc in absurd (omega arith)
-numbered_at_lem number name (p ∷ ps) q e = by (eqb p.name name) e (λ h. numbered_at_lem (number + 1) name ps q h)
-  where
-    by : (b : Bool) → cond b (Some (record { number = number; ins = p.ins; parameters = p.entries })) (numbered_from (number + 1) name ps) ≡ Some q
-        → (numbered_from (number + 1) name ps ≡ Some q → (number + 1 ≤ q.number) × (numbered_at q.number (q.number - (number + 1)) ps ≡ Some q))
-        → (number ≤ q.number) × (numbered_at q.number (q.number - number) (p ∷ ps) ≡ Some q)
-    by true i f =
-        let n : q.number ≡ number = cc in
-        let t = eq-eqb (q.number - number) 0 (omega arith) in
-        (omega arith, cond-true (eqb (q.number - number) 0) _ _ t ∙ cc)
-    by false i f =
-        let r = f i in
-        let t = ne_eqb (q.number - number) 0 (λ z. omega (arith, r.0)) in
-        let l : q.number - number - 1 ≡ q.number - (number + 1) = omega arith in
-        (omega (arith, r.0), cond-false (eqb (q.number - number) 0) _ _ t ∙ ap (λ (k : ℕ). numbered_at q.number k ps) l ∙ r.1)
-
-pub procedure_at_lem : (name : ℕ) (b : Book) (q : Numbered) → procedure_named name b ≡ Some q → procedure_at q.number b ≡ Some q
-procedure_at_lem name b q e =
-    let l : q.number ≡ q.number - 0 = omega arith in
-    ap (λ (k : ℕ). numbered_at q.number k (procedures b)) l ∙ (numbered_at_lem 0 name (procedures b) q e).1

@@ -2,4 +2,3 @@ pub mod Finds
 pub mod Sized
 pub mod Steps
 pub mod Tallies
-pub mod Covers

@@ -36,7 +36,7 @@ length-procedures_in es (d ∷ ds) = let e = length-procedures_in es ds in grind
 
 module _ (es : List Entry) (cs : List Clause) (ds : List Declaration) where
   abbrev these : Stored
-  these = record { declarations = ds; clauses = cs; entries = es; blocks = [] }
+  these = record { declarations = ds; clauses = cs; entries = es }
 
   -- The book's limits, where the records fit.
   limits : declarations_fit (length es) ds ≡ true → within_limits (book_in these) ≡ few (adding none ds)

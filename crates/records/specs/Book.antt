@@ -1,5 +1,5 @@
 -- A book: what was declared and what was stated, each with the entries of its page.
-use Rattle.std.specs.Prelude.{ℕ, ◌+◌, ◌-◌, Bool, cond, ◌&&◌, ◌||◌, List, [], ◌∷◌, ◌++◌, Some, None, Option, ◌==◌}
+use Rattle.std.specs.Prelude.{ℕ, ◌+◌, Bool, cond, ◌&&◌, ◌||◌, List, [], ◌∷◌, ◌++◌, Some, None, Option, ◌==◌}
 use Rattle.std.specs.List.{flat_map}
 use Rattle.page.specs.declared.Entry.{Entry}
 use Rattle.records.specs.declared.lists.DeclarationKind.{DeclarationKind}
@@ -66,17 +66,6 @@ numbered_from number name (p ∷ ps) =
 -- The procedure of that name.
 abbrev pub procedure_named : ℕ → Book → Option Numbered
 procedure_named name b = numbered_from 0 name (procedures b)
-
-abbrev pub numbered_at : ℕ → ℕ → List Declared → Option Numbered
-numbered_at number left [] = None
-numbered_at number left (p ∷ ps) =
-    cond (left == 0)
-    (Some (record { number = number; ins = p.ins; parameters = p.entries }))
-    (numbered_at number (left - 1) ps)
-
--- The procedure of that number.
-abbrev pub procedure_at : ℕ → Book → Option Numbered
-procedure_at number b = numbered_at number number (procedures b)
 
 -- Is it a clause of that kind, and of that procedure where it is no axiom?
 abbrev pub belongs : ClauseKind → ℕ → ClauseKind → ℕ → Bool

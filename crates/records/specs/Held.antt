@@ -1,7 +1,6 @@
 -- What lists of records hold.
 use Rattle.std.specs.Prelude.{◌≡◌, ℕ, ◌+◌, ◌≤◌, Bool, true, false, cond, not, ◌&&◌, ◌||◌, List, [], ◌∷◌, ◌++◌, map, length, take, drop, Some, None, Option, nat_le, nat_lt}
 use Rattle.page.specs.declared.Entry.{Entry}
-use Rattle.records.specs.declared.lists.Block.{Block}
 use Rattle.records.specs.declared.lists.Clause.{Clause}
 use Rattle.records.specs.declared.lists.ClauseKind.{ClauseKind}
 use Rattle.records.specs.declared.lists.ClauseKind.TheVariants.{Axiom, Requires, Ensures, Modifies}
@@ -19,10 +18,9 @@ pub record Stored : Type 0 where
   pub declarations : List Declaration
   pub clauses : List Clause
   pub entries : List Entry
-  pub blocks : List Block
 
 abbrev pub stored : Lists → Stored
-stored l = record { declarations = l.declarations.now; clauses = l.clauses.now; entries = l.entries.now; blocks = l.blocks.now }
+stored l = record { declarations = l.declarations.now; clauses = l.clauses.now; entries = l.entries.now }
 
 -- The lists are the same places in memory.
 abbrev pub Same : Lists → Lists → Type 0
@@ -30,15 +28,13 @@ Same l m =
     (m.declarations.ghost_name ≡ l.declarations.ghost_name)
     × (m.clauses.ghost_name ≡ l.clauses.ghost_name)
     × (m.entries.ghost_name ≡ l.entries.ghost_name)
-    × (m.blocks.ghost_name ≡ l.blocks.ghost_name)
 
--- The contents that a book uses: of blocks, none.
+-- The contents in use.
 abbrev pub in_use : Counts → Stored → Stored
 in_use n st = record {
   declarations = take n.declarations st.declarations;
   clauses = take n.clauses st.clauses;
   entries = take n.entries st.entries;
-  blocks = [];
 }
 
 -- A record with its entries.
@@ -56,7 +52,7 @@ book_in st = record {
 
 -- The book that a reader of the lists sees.
 abbrev pub book_of : HeldBook → Book
-book_of b = book_in (record { declarations = b.declarations.now; clauses = b.clauses.now; entries = b.entries.now; blocks = [] })
+book_of b = book_in (record { declarations = b.declarations.now; clauses = b.clauses.now; entries = b.entries.now })
 
 -- Each list is as long as the counts say.
 abbrev pub long_enough : Counts → Stored → Bool

@@ -3,4 +3,3 @@ pub mod Book
 pub mod Held
 pub mod Sizes
 pub mod Found
-pub mod Entries

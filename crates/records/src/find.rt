@@ -1,7 +1,6 @@
 ghost use Rattle.std.specs.Prelude.{◌≡◌, ◌+◌, ◌≤◌, length, take, drop, is_some};
-ghost use Rattle.language.specs.Commands.{covered};
 ghost use Rattle.language.specs.Expressions.{type_of};
-ghost use Rattle.records.specs.Book.{belongs, clauses_of, declared_as, modified, modified_by, of_kind, procedure_at, procedure_named};
+ghost use Rattle.records.specs.Book.{belongs, clauses_of, declared_as, modified, modified_by, of_kind, procedure_named};
 ghost use Rattle.records.specs.Found.{numbered};
 ghost use Rattle.records.specs.Held.{book_of, declared_in, stated_in};
 ghost use Rattle.std.specs.Option.{option_map};
@@ -11,7 +10,7 @@ use language::ValueType;
 use page::Entry;
 
 /// The entries from `start` on, `count` of them or as many as there are.
-pub fn part(entries: &[Entry], start: usize, count: usize) -> &[Entry]
+fn part(entries: &[Entry], start: usize, count: usize) -> &[Entry]
     ensures { result.now ≡ take count (drop start entries.now) }
 {
     let from = entries.len().min(start);
@@ -35,7 +34,7 @@ pub fn find_type(entries: &[Entry], name: u32) -> Option<ValueType>
 
 impl<'a> HeldBook<'a> {
     /// The entries of a declaration, if it is of this kind; else none.
-    pub fn declared_as(&self, declaration: Declaration, kind: DeclarationKind) -> &[Entry]
+    fn declared_as(&self, declaration: Declaration, kind: DeclarationKind) -> &[Entry]
         ensures { result.now ≡ of_kind kind (declared_in self.now.entries.now declaration) }
     {
         let start = declaration.start as usize;
@@ -59,57 +58,27 @@ impl<'a> HeldBook<'a> {
         None
     }
 
-    /// The declaration of a procedure, as the procedure of that number.
-    fn as_procedure(&self, declaration: Declaration, number: usize) -> Procedure<'a>
-        ensures { numbered result ≡ record { number = number; ins = declaration.a; parameters = (declared_in self.now.entries.now declaration).entries } }
-    {
-        let entries = self.entries;
-        let start = declaration.start as usize;
-        let count = declaration.a as usize + declaration.b as usize;
-        Procedure {
-            number,
-            ins: declaration.a,
-            parameters: part(entries, start, count),
-        }
-    }
-
     /// The procedure of that name.
     pub fn find_procedure(&self, name: u32) -> Option<Procedure<'a>>
         ensures { option_map numbered result ≡ procedure_named name (book_of self.now) }
     {
+        let entries = self.entries;
         let mut number = 0;
         for declaration in self.declarations {
             if declaration.kind.is(DeclarationKind::Procedure) {
                 if declaration.name == name {
-                    return Some(self.as_procedure(*declaration, number));
+                    let start = declaration.start as usize;
+                    let count = declaration.a as usize + declaration.b as usize;
+                    return Some(Procedure {
+                        number,
+                        ins: declaration.a,
+                        parameters: part(entries, start, count),
+                    });
                 }
                 number += 1;
             }
         }
         None
-    }
-
-    /// The procedure of that number.
-    pub fn procedure_at(&self, number: usize) -> Option<Procedure<'a>>
-        ensures { option_map numbered result ≡ procedure_at number (book_of self.now) }
-    {
-        let mut left = number;
-        for declaration in self.declarations {
-            if declaration.kind.is(DeclarationKind::Procedure) {
-                if left == 0 {
-                    return Some(self.as_procedure(*declaration, number));
-                }
-                left -= 1;
-            }
-        }
-        None
-    }
-
-    /// The entries of a clause.
-    pub fn entries_of(&self, clause: Clause) -> &[Entry]
-        ensures { result.now ≡ (stated_in self.now.entries.now clause).entries }
-    {
-        part(self.entries, clause.start as usize, clause.count as usize)
     }
 
     /// How many clauses there are of the kind and of the procedure of that number, or how many axioms.
@@ -155,35 +124,9 @@ impl<'a> HeldBook<'a> {
     }
 }
 
-impl HeldBook<'_> {
-    /// Does the procedure of that number modify all of these?
-    fn modifies_each(&self, procedure: usize, globals: &[Entry]) -> bool
-        ensures { result ≡ covered (modified procedure (book_of self.now)) globals.now }
-    {
-        for global in globals {
-            if !self.is_modified(procedure, global.left) {
-                return false;
-            }
-        }
-        true
-    }
-
-    /// Does one procedure modify all that another modifies?
-    pub fn modifies_all(&self, procedure: usize, other: usize) -> bool
-        ensures { result ≡ covered (modified procedure (book_of self.now)) (modified other (book_of self.now)) }
-    {
-        for clause in self.clauses {
-            if !self.modifies_each(procedure, self.modified_by(*clause, other)) {
-                return false;
-            }
-        }
-        true
-    }
-}
-
 impl Clause {
     /// Is it of this kind, and of the procedure of that number where it is no axiom?
-    pub fn belongs_to(self, kind: ClauseKind, procedure: usize) -> bool
+    fn belongs_to(self, kind: ClauseKind, procedure: usize) -> bool
         ensures { result ≡ belongs kind procedure self.kind self.procedure }
     {
         self.kind.is(kind) && (kind.is(ClauseKind::Axiom) || self.procedure as usize == procedure)
@@ -196,12 +139,5 @@ impl<'a> Procedure<'a> {
         ensures { result.now ≡ take self.entry.ins self.entry.parameters.now }
     {
         part(self.parameters, 0, self.ins as usize)
-    }
-
-    /// The out-parameters.
-    pub fn out_parameters(self) -> &'a [Entry]
-        ensures { result.now ≡ drop self.entry.ins self.entry.parameters.now }
-    {
-        part(self.parameters, self.ins as usize, self.parameters.len())
     }
 }

@@ -2,4 +2,3 @@
 pub mod find;
 pub mod guard;
 pub mod lists;
-pub mod write;

@@ -57,22 +57,12 @@ pub struct Clause {
     pub count: u32,
 }
 
-/// A block of a body: its name, and its entries, from `start` on in the table of entries: those of its commands, then those of its targets.
-#[derive(Clone, Copy)]
-pub struct Block {
-    pub name: u32,
-    pub start: u32,
-    pub commands: u32,
-    pub targets: u32,
-}
-
-/// The lists in which the records of a book and of a body lie. The caller lends them to each call.
+/// The lists in which the book's records lie. The caller lends them to each call.
 #[derive(Drop)]
 pub struct Lists<'a> {
     pub declarations: &'a mut [Declaration],
     pub clauses: &'a mut [Clause],
     pub entries: &'a mut [Entry],
-    pub blocks: &'a mut [Block],
 }
 
 /// How many records of each list are in use.

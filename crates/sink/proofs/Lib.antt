@@ -1,3 +1,2 @@
 pub mod Apt
 pub mod Keeping
-pub mod Runs

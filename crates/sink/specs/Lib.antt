@@ -1,4 +1,3 @@
 pub mod Causes
 pub mod Laws
 pub mod Paths
-pub mod Runs

@@ -1,3 +1,2 @@
 pub mod Tells
-pub mod Tellings
 pub mod Worlds

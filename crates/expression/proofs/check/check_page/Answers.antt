@@ -14,7 +14,7 @@ returns-in-Err c =
     let h : c.loop-i.i < length ls = omega arith in
     let k : c.loop-i.i < length rs = omega arith in
     let e = stops_page (scope_of c.args.scope.now) ls rs _
-    (walk_stops (scope_of c.args.scope.now) ls rs c.loop-i.i (waits (held c.loop-i.waiting)) _ c.loop-i.invariant.1 h k _ c.loop-i.invariant.0 c.in-Err.ground c.in-Err.ensures.does) in
+    (walk_stops (scope_of c.args.scope.now) ls rs c.loop-i.i (waits (held c.loop-i.waiting)) _ c.loop-i.invariant.1 h k c.in-Err.ground c.in-Err.ensures.does) in
     record { is = e; exact = exact_of (scope_of c.args.scope.now) (paired ls rs) _ e }
 
 pub loop-i-preserved : goal.loop-i-preserved
@@ -23,8 +23,8 @@ loop-i-preserved c =
     let rs = c.args.right.now in
     let h : c.loop-i.i < length ls = omega arith in
     let k : c.loop-i.i < length rs = omega arith in (
-      c.check-entry.ensures.room ∙ c.loop-i.invariant.0,
-      walk_goes (scope_of c.args.scope.now) ls rs c.loop-i.i (waits (held c.loop-i.waiting)) _ c.loop-i.invariant.1 h k _ c.loop-i.invariant.0 (waits (held c.check-entry.new.waiting)) c.in-default.ensures.does,
+      c.check-entry.ensures.room,
+      walk_goes (scope_of c.args.scope.now) ls rs c.loop-i.i (waits (held c.loop-i.waiting)) _ c.loop-i.invariant.1 h k (waits (held c.check-entry.new.waiting)) c.in-default.ensures.does,
     )
 
 pub returns : goal.returns

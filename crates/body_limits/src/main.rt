@@ -1,5 +1,0 @@
-//! The program `vcgen` on an input at each limit of a body, and one past it.
-
-fn main(rt: HostRuntime) -> anyhow::Result<()> {
-    console::program::run(rt)
-}

@@ -1,2 +1,0 @@
-pub mod Passes
-mod Rooms

@@ -1,3 +1,0 @@
-pub mod Conditions
-pub mod Rules
-pub mod Verdicts

@@ -1,9 +1,0 @@
-pub mod Longer
-pub mod Grows
-pub mod Added
-pub mod Accepts
-pub mod Theorem
-pub mod Drafts
-pub mod Started
-pub mod Extended
-pub mod Bodies

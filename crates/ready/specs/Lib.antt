@@ -1,2 +1,0 @@
-pub mod Limits
-pub mod Reviews

@@ -1,5 +1,0 @@
-pub mod ReadBack
-pub mod Looks
-pub mod Names
-pub mod Sounds
-pub mod Bounds
