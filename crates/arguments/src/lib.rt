@@ -1,4 +1,6 @@
 //! The arguments of the program: `[--trace] [--records N] [--operands N] [--work N] [--help] [FILE]`, in any order.
+#![tactic(auto)]
+
 ghost use Rattle.arguments.specs.Sizes.{sizes_with};
 ghost use Rattle.std.specs.Prelude.{◌≡◌};
 

@@ -1,5 +1,5 @@
 -- What Declare and Settle answer, and what they leave.
-use Rattle.std.specs.Prelude.{ℕ, ◌+◌, ◌<◌, ◌≤◌, Bool, cond, ◌&&◌, ◌||◌, List, [], ◌∷◌, ◌++◌, length, take, drop, set, Some, None, Ok, Err, Option, Result, ◌==◌, nat_le, nat_lt}
+use Rattle.std.specs.Prelude.{ℕ, ◌+◌, ◌<◌, ◌≤◌, Bool, cond, ◌&&◌, ◌||◌, List, ◌++◌, length, take, drop, Some, None, Ok, Err, Option, Result, ◌==◌, nat_le, nat_lt, slice_set}
 use Rattle.fault.specs.declared.Cause.{Cause}
 use Rattle.fault.specs.declared.Cause.TheVariants.{Call}
 use Rattle.fault.specs.declared.Fault.{Fault}
@@ -48,7 +48,7 @@ declaration_added kind name p number n st = record {
   answer = Ok number;
   counts = record { declarations = n.declarations + 1; clauses = n.clauses; entries = n.entries + (p.a + p.b) };
   lists = record {
-    declarations = set st.declarations n.declarations (record { kind = kind; name = name; start = n.entries; a = p.a; b = p.b });
+    declarations = slice_set st.declarations n.declarations (record { kind = kind; name = name; start = n.entries; a = p.a; b = p.b });
     clauses = st.clauses;
     entries = written st.entries n.entries (entries_of p);
   };
@@ -61,7 +61,7 @@ clause_added kind procedure p number n st = record {
   counts = record { declarations = n.declarations; clauses = n.clauses + 1; entries = n.entries + (p.a + p.b) };
   lists = record {
     declarations = st.declarations;
-    clauses = set st.clauses n.clauses (record { kind = kind; procedure = procedure; start = n.entries; count = p.a + p.b });
+    clauses = slice_set st.clauses n.clauses (record { kind = kind; procedure = procedure; start = n.entries; count = p.a + p.b });
     entries = written st.entries n.entries (entries_of p);
   };
 }

@@ -1,9 +1,9 @@
 -- When a declaration is accepted, over the book as its reader thinks of it. Each rule gives the cause of the first ground, or none.
-use Rattle.std.specs.Prelude.{ℕ, ◌+◌, Bool, true, false, cond, not, ◌&&◌, ◌||◌, List, [], ◌∷◌, ◌++◌, length, take, is_some, Some, None, Option, ◌==◌, nat_lt}
+use Rattle.std.specs.Prelude.{ℕ, ◌+◌, Bool, not, ◌||◌, List, [], ◌++◌, length, take, is_some, Some, None, Option, ◌==◌, nat_lt}
 use Rattle.std.specs.List.{prefix_len}
 use Rattle.fault.specs.declared.Cause.{Cause}
 use Rattle.fault.specs.declared.Cause.TheVariants.{Call}
-use Rattle.fault.specs.declared.Ground.TheVariants.{Form, Lists, Naming, Limit, Taken, UnknownType, UnknownProcedure, NotUsable}
+use Rattle.fault.specs.declared.Ground.TheVariants.{Naming, Limit, Taken, UnknownType, UnknownProcedure, NotUsable}
 use Rattle.fault.specs.Refusals.{on_call, on_entry, refusal}
 use Rattle.page.specs.declared.Entry.{Entry}
 use Rattle.page.specs.Pages.{Sheet, entries_of}

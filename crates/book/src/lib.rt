@@ -1,4 +1,6 @@
 //! The book while it is open: Declare takes declarations and clauses, and Settle closes it to more.
+#![tactic(auto)]
+
 mod add;
 mod clauses;
 mod declare;

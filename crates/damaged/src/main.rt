@@ -1,4 +1,6 @@
 //! Declares into lists that were changed by others, and prints what Declare says of them.
+#![tactic(auto)]
+
 ghost use Rattle.std.specs.Prelude.{◌≤◌};
 
 use book::Open;

@@ -7,4 +7,4 @@ use Rattle.language.specs.Checking.{Waiting}
 -- The ground of a refusal, or else what waits now.
 abbrev pub outcome : {A : Type 0} → Result A Ground → List ValueType → Waiting
 outcome (Ok a) waiting = Ok waiting
-outcome (Err ground) waiting = Err ground
+outcome (Err reason) waiting = Err reason

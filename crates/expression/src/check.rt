@@ -30,15 +30,15 @@ fn wait(waiting: &mut Holder<ValueType>, t: ValueType) -> Result<(), Ground>
 fn wait_for(
     waiting: &mut Holder<ValueType>,
     found: Option<ValueType>,
-    ground: Ground,
+    reason: Ground,
 ) -> Result<(), Ground>
     requires { room (held waiting.old) ≡ 1024 }
-    ensures does { outcome result (waits (held waiting.new)) ≡ leaf ground found (waits (held waiting.old)) }
+    ensures does { outcome result (waits (held waiting.new)) ≡ leaf reason found (waits (held waiting.old)) }
     ensures room { room (held waiting.new) ≡ 1024 }
 {
     match found {
         Some(t) => wait(waiting, t),
-        None => Err(ground),
+        None => Err(reason),
     }
 }
 

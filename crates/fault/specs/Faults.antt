@@ -2,7 +2,6 @@
 use Rattle.std.specs.Prelude.{ℕ}
 use Rattle.fault.specs.declared.Ground.{Ground}
 use Rattle.fault.specs.declared.Ground.TheVariants.{Form, Lists, Naming, Limit, Taken, UnknownType, UnknownProcedure, Code, NotUsable, TooFewWaiting, TooManyWaiting, WrongTypes, Remaining, Unchangeable, NotModified, Receivers, NoBlock, UnknownTarget, EarlierTarget, WorkList, SinkRefused}
-use Rattle.fault.specs.declared.Place.{Place}
 use Rattle.fault.specs.declared.Place.TheVariants.{At, End}
 use Rattle.fault.specs.declared.Cause.{Cause}
 use Rattle.fault.specs.declared.Cause.TheVariants.{Call, Entry}

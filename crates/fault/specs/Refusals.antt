@@ -7,12 +7,12 @@ use Rattle.fault.specs.declared.Place.TheVariants.{At}
 
 -- A ground on which the whole call is refused, where a test says so.
 abbrev pub on_call : Bool → Ground → Option Cause
-on_call false ground = None
-on_call true ground = Some (Call ground)
+on_call false reason = None
+on_call true reason = Some (Call reason)
 
 -- A ground on which entry i is refused, where there is such an entry; the item is its left number.
 abbrev pub on_entry : Ground → List ℕ → ℕ → Option Cause
-on_entry ground left i = cond (nat_lt i (length left)) (Some (Entry ground (At i (slice_index left i)))) None
+on_entry reason left i = cond (nat_lt i (length left)) (Some (Entry reason (At i (slice_index left i)))) None
 
 -- The cause for which a check refused, if it did.
 abbrev pub refusal : {A : Type 0} → Result A Cause → Option Cause

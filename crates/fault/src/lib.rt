@@ -1,4 +1,6 @@
 //! Refusals: why a call was refused and where, and the four numbers that this gives.
+#![tactic(auto)]
+
 pub mod refuse;
 
 ghost use Rattle.fault.specs.Faults.{given, number_of};

@@ -4,22 +4,22 @@ ghost use Rattle.std.specs.Prelude.{◌≡◌};
 use crate::{Cause, Ground, Place};
 
 /// Refuses the whole call, where a test says so.
-pub fn refuse_call(test: bool, ground: Ground) -> Result<(), Cause>
-    ensures { refusal result ≡ on_call test ground }
+pub fn refuse_call(test: bool, reason: Ground) -> Result<(), Cause>
+    ensures { refusal result ≡ on_call test reason }
 {
     if test {
-        return Err(Cause::Call(ground));
+        return Err(Cause::Call(reason));
     }
     Ok(())
 }
 
 /// Refuses the entry at an index, where there is one.
-pub fn refuse_entry(ground: Ground, left: &[u32], index: usize) -> Result<(), Cause>
-    ensures { refusal result ≡ on_entry ground left.now index }
+pub fn refuse_entry(reason: Ground, left: &[u32], index: usize) -> Result<(), Cause>
+    ensures { refusal result ≡ on_entry reason left.now index }
 {
     if index < left.len() {
         return Err(Cause::Entry(
-            ground,
+            reason,
             Place::At {
                 index,
                 item: left[index],

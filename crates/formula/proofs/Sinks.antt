@@ -1,14 +1,13 @@
 -- The entries that a sink answers have the values of the tells, and a sink with room stops no telling.
-use Rattle.std.proofs.Common.{◌≡◌, ℕ, suc, ◌+◌, ◌<◌, ◌≤◌, Bool, true, false, cond, eqb, List, [], ◌∷◌, ◌++◌, map, length, Some, Ok, Err, sym, refl, ap, ◌∙◌, subst, arith, length-append}
+use Rattle.std.proofs.Common.{◌≡◌, ℕ, suc, ◌+◌, ◌<◌, ◌≤◌, Bool, true, false, eqb, List, [], ◌∷◌, ◌++◌, map, length, Some, sym, refl, ap, ◌∙◌, subst, arith, length-append}
 use lib.ListN.{length-map}
-use Rattle.std.specs.List.{AllByRecursion as All}
+use Rattle.std.specs.List.{AllByRecursion}
 use Rattle.std.proofs.lemmas.Bool.{eqb-false, true≢false, false≢true}
-use Rattle.world.specs.Tells.{Binds, Tell, arity, meant}
+use Rattle.world.specs.Tells.{Binds, Tell, meant}
 use Rattle.world.specs.Worlds.{Reading}
 use Rattle.meaning.specs.Bound.{T}
-use Rattle.meaning.specs.Promise.{ReadingOf}
 use Rattle.meaning.specs.Routine.{Routine, Sound}
-use Rattle.meaning.specs.Runs.{HasConstants, RunOf, wrong}
+use Rattle.meaning.specs.Runs.{HasConstants}
 use Rattle.meaning.specs.Telling.{Fits, Lawful, LawfulTell, formula_value, told, told_value}
 use Rattle.meaning.proofs.Costs.{at_most_t}
 use Rattle.meaning.proofs.Examples.{all_fits}
@@ -19,14 +18,14 @@ use Rattle.sink.specs.Causes.{Answer}
 use Rattle.sink.specs.Laws.{Refused, Told}
 use Rattle.sink.specs.Paths.{Follows, Kept, Stopped, entry_of, nothing, sent, then}
 use Rattle.sink.proofs.Apt.{apt_from}
-use Rattle.sink.proofs.Keeping.{follows_entries, follows_kept, follows_length, step_accepted, step_refused, stopped_same}
-use Rattle.formula.specs.InSinks.{Holds, Promised, Written}
+use Rattle.sink.proofs.Keeping.{follows_entries, follows_kept, follows_length, step_accepted, step_refused}
+use Rattle.formula.specs.InSinks.{Holds, Written}
 
 module _ {S V : Type 0} (watches : S → Reading V → Type 0) (entries : S → ℕ) (value : S → Reading V → ℕ → V) (takes : S → ℕ → Bool) (spare : S → ℕ) (steps : S → Tell → Answer → S → Type 0)
     (lawful : (s : S) (t : Tell) (a : Answer) (z : S) → steps s t a z → Told watches entries value takes spare s t a z) where
   -- The operands' entries have the values of the tells that they were answered for.
   values_of : (q : Reading V) (ts : List Tell) (s : S) (answers : List ℕ) → ((i : ℕ) → i < length ts → value s q (entry_of answers i) ≡ told_value q ts i)
-      → (es : List ℕ) → All (λ e. e < length ts) es → map (value s q) (map (entry_of answers) es) ≡ map (told_value q ts) es
+      → (es : List ℕ) → AllByRecursion (λ e. e < length ts) es → map (value s q) (map (entry_of answers) es) ≡ map (told_value q ts) es
   values_of q ts s answers h [] a = refl
   values_of q ts s answers h (e ∷ es) (l, a) = rw (h e l, values_of q ts s answers h es a)
 
@@ -66,7 +65,7 @@ module _ {S V : Type 0} (watches : S → Reading V → Type 0) (entries : S → 
   lawful_at q (u ∷ later) t earlier h = lawful_at q later t earlier h.1
 
   -- The answers for earlier tells are entries.
-  sent_below : (n : ℕ) (ts : List Tell) (answers : List ℕ) → ((i : ℕ) → i < length ts → entry_of answers i < n) → (es : List ℕ) → All (λ e. e < length ts) es → All (λ e. e < n) (map (entry_of answers) es)
+  sent_below : (n : ℕ) (ts : List Tell) (answers : List ℕ) → ((i : ℕ) → i < length ts → entry_of answers i < n) → (es : List ℕ) → AllByRecursion (λ e. e < length ts) es → AllByRecursion (λ e. e < n) (map (entry_of answers) es)
   sent_below n ts answers h [] a = tt
   sent_below n ts answers h (e ∷ es) (l, a) = (h e l, sent_below n ts answers h es a)
 

@@ -1,4 +1,6 @@
 //! A routine's formula in a sink: what the entry that the sink answered says of the routine's runs.
+#![tactic(auto)]
+
 ghost use Rattle.formula.specs.InSinks.{Holds};
 
 use sink::Sink;

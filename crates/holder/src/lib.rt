@@ -1,4 +1,6 @@
 //! The holder of waiting values: a stack over places that the caller lends, for values of any one type.
+#![tactic(auto)]
+
 ghost use Rattle.holder.specs.Holding.{held, popped, pushed};
 ghost use Rattle.holder.specs.Stack.{Holding, room, waits};
 ghost use Rattle.std.specs.Prelude.{◌≡◌, ◌<◌, [], ◌∷◌, length, MatchOption, MatchResult};
@@ -13,7 +15,7 @@ pub struct Holder<'a, T: Drop> {
 impl<'a, T: Copy> Holder<'a, T> {
     /// A holder in which nothing waits, with room for as many values as there are places.
     pub fn new(places: &'a mut [T]) -> Holder<'a, T>
-        ensures is { held result ≡ record { places = places.entry.now; used = 0 } }
+        ensures is { held result ≡ record { places = places.old; used = 0 } }
         ensures lent { result.places.ghost_name ≡ places.entry.ghost_name }
     {
         Holder { places, used: 0 }

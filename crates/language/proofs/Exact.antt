@@ -24,10 +24,10 @@ module _ (sc : Scope) where
   waiting_spelled : {ws : List ValueType} {es : List Entry} {x : Expression} {t : ValueType} → Spelled ws es → Typed sc x t → IfOk (waiting_for t ws) (λ vs. Spelled vs (es ++ postfix x))
   waiting_spelled {ws} {es} {x} s d = cond_both (ltb (length ws) 1024) _ _ (λ r. IfOk r (λ vs. Spelled vs (es ++ postfix x))) (λ b. more s d) (λ b. tt)
 
-  leaf_spelled : (ground : Ground) {ws : List ValueType} {es : List Entry} (x : Expression) (o : Option ValueType)
-      → Spelled ws es → ((t : ValueType) → o ≡ Some t → Typed sc x t) → IfOk (leaf ground o ws) (λ vs. Spelled vs (es ++ postfix x))
-  leaf_spelled ground x None s d = tt
-  leaf_spelled ground x (Some t) s d = waiting_spelled s (d t refl)
+  leaf_spelled : (reason : Ground) {ws : List ValueType} {es : List Entry} (x : Expression) (o : Option ValueType)
+      → Spelled ws es → ((t : ValueType) → o ≡ Some t → Typed sc x t) → IfOk (leaf reason o ws) (λ vs. Spelled vs (es ++ postfix x))
+  leaf_spelled reason x None s d = tt
+  leaf_spelled reason x (Some t) s d = waiting_spelled s (d t refl)
 
   replaced_spelled : {ws : List ValueType} {es : List Entry} (o : Option ValueType) → ((t : ValueType) → o ≡ Some t → Spelled (t ∷ ws) es) → IfOk (replaced o ws) (λ vs. Spelled vs es)
   replaced_spelled None d = tt
@@ -68,7 +68,7 @@ module _ (sc : Scope) where
       go : (r : Waiting) → ((vs : List ValueType) → Spelled vs (es ++ (e ∷ [])) → IfOk (after_entries sc (i + 1) new vs) (λ us. Spelled us (es ++ (e ∷ new)))) → IfOk r (λ vs. Spelled vs (es ++ (e ∷ [])))
           → IfOk (elim (located r i e.left) [ Ok vs ↦ after_entries sc (i + 1) new vs | Err cause ↦ Err cause ]) (λ us. Spelled us (es ++ (e ∷ new)))
       go (Ok vs) f k = f vs k
-      go (Err ground) f k = tt
+      go (Err reason) f k = tt
 
   end_spelled : {ws : List ValueType} {es : List Entry} (n : ℕ) → Spelled ws es → is_ok (at_end n ws) ≡ true → Postfix sc es bool
   end_spelled n nothing i = absurd (false≢true i)

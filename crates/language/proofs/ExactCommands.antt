@@ -1,7 +1,7 @@
 -- The check accepts exactly the pages that are the postfix form of right commands.
 use Rattle.std.proofs.Common.{◌≡◌, ℕ, ◌+◌, ◌≤◌, true, false, not, eqb, ltb, List, [], ◌∷◌, ◌++◌, map, reverse, length, take, is_ok, IfOk, Some, None, Ok, Err, Option, Result, sym, refl, ap, ◌∙◌, subst, ⊎_elim, arith}
 use mathlib.Core.List.{reverse_aux, reverse-cons}
-use Rattle.std.specs.List.{flat_map, AllByRecursion as All}
+use Rattle.std.specs.List.{flat_map, AllByRecursion}
 use Rattle.std.proofs.ByRecursion.{All-push}
 use Rattle.std.proofs.lemmas.List.{append_assoc, append-nil, flat_map_more, length-append, length-reverse, map_push, reverse-reverse, take_all}
 use Rattle.std.proofs.lemmas.Bool.{and_parts, cases_Bool, cond_both, eqb-true, false≢true, not-false}
@@ -83,7 +83,7 @@ module _ (b : BodyScope) where
     values : List Entry
     earlier : CommandPage b page
     spelled : Spelled (scope_in b) w.types values
-    changeables : All Changeable w.receivers
+    changeables : AllByRecursion Changeable w.receivers
     apart : distinct w.receivers ≡ true
     are : es ≡ page ++ (values ++ map (entry 47) w.receivers)
 
@@ -95,7 +95,7 @@ module _ (b : BodyScope) where
   one_more {c = c} p r =
       record {
         commands = p.commands ++ (c ∷ []);
-        is-written = ap (λ l. l ++ written c) p.is-written ∙ flat_map_more written [] p.commands c;
+        is_written = ap (λ l. l ++ written c) p.is_written ∙ flat_map_more written [] p.commands c;
         right = All-push (Right b) p.commands c p.right r;
       }
 
@@ -177,7 +177,7 @@ module _ (b : BodyScope) where
       }
 
   -- Receivers of right types, as many as there are out-parameters.
-  receiving : (rs : List ℕ) (ts : List ValueType) → All Changeable rs → received b rs ts ≡ true → length rs ≡ length ts → Alike (λ n t. standing b n ≡ changeable t) rs ts
+  receiving : (rs : List ℕ) (ts : List ValueType) → AllByRecursion Changeable rs → received b rs ts ≡ true → length rs ≡ length ts → Alike (λ n t. standing b n ≡ changeable t) rs ts
   receiving [] [] a i n = tt
   receiving [] (t ∷ ts) a i n = absurd (omega arith)
   receiving (r ∷ rs) [] a i n = absurd (omega arith)
@@ -213,7 +213,7 @@ module _ (b : BodyScope) where
   value_stands e w {es} k = go (after_entry (scope_in b) e w.types) w.receivers k.are (entry_spelled (scope_in b) e k.spelled)
     where
       go : (r : Waiting) (rs : List ℕ) → es ≡ k.page ++ (k.values ++ map (entry 47) rs) → IfOk r (λ vs. Spelled (scope_in b) vs (k.values ++ (e ∷ []))) → Good es e (valued r rs)
-      go (Err ground) rs i s = tt
+      go (Err reason) rs i s = tt
       go (Ok ts) [] i s = record { page = k.page; values = k.values ++ (e ∷ []); earlier = k.earlier; spelled = s; changeables = tt; apart = refl; are = simp (i, append-nil, append_assoc) }
       go (Ok ts) (r ∷ rs) i s = tt
 
@@ -237,7 +237,7 @@ module _ (b : BodyScope) where
       go : (r : Step) → ((v : Waits) → Stands v (es ++ (e ∷ [])) → IfOk (after_commands b (i + 1) new v) (λ u. Stands u (es ++ (e ∷ new)))) → Good es e r
           → IfOk (elim (placed r i e.left) [ Ok v ↦ after_commands b (i + 1) new v | Err cause ↦ Err cause ]) (λ u. Stands u (es ++ (e ∷ new)))
       go (Ok v) f s = f v s
-      go (Err ground) f s = tt
+      go (Err reason) f s = tt
 
   end_stands : (w : Waits) {es : List Entry} → Stands w es → remains w.types w.receivers ≡ false → CommandPage b es
   end_stands w {es} k i =
@@ -251,7 +251,7 @@ module _ (b : BodyScope) where
   accepted_commands es = go (after_commands b 0 es nothing) (entries_stand 0 es nothing start)
     where
       start : Stands nothing []
-      start = record { page = []; values = []; earlier = record { commands = []; is-written = refl; right = tt }; spelled = none; changeables = tt; apart = refl; are = refl }
+      start = record { page = []; values = []; earlier = record { commands = []; is_written = refl; right = tt }; spelled = none; changeables = tt; apart = refl; are = refl }
 
       go : (r : Result Waits Cause) → IfOk r (λ v. Stands v es) → is_ok (elim r [ Ok w ↦ at_page_end (length es) w | Err cause ↦ Err cause ]) ≡ true → CommandPage b es
       go (Ok w) k i = end_stands w k (grind (arith, nat_tests))
@@ -350,15 +350,15 @@ module _ (b : BodyScope) where
       simp append_assoc (arguments_take arguments q.ins [] ins (omega arith)
       (receivers-take receivers q.outs (reverse q.ins) [] outs apart (one (call_taken name q receivers i outs covers) l)))
 
-  commands-take : (cs : List Command) → All (Right b) cs → length (flat_map written cs) ≤ 1024 → Takes (flat_map written cs) nothing nothing
+  commands-take : (cs : List Command) → AllByRecursion (Right b) cs → length (flat_map written cs) ≤ 1024 → Takes (flat_map written cs) nothing nothing
   commands-take [] a h = end
   commands-take (c ∷ cs) a h = let n = length-append (written c) (flat_map written cs) in command_takes a.0 (omega arith) (commands-take cs a.1 (omega arith))
 
   -- A page of at most 1,024 entries that is the postfix form of right commands is accepted.
   pub commands_accepted : (es : List Entry) → length es ≤ 1024 → CommandPage b es → is_ok (checked_commands b es) ≡ true
   commands_accepted es h p =
-      let l = commands-take p.commands p.right (omega (arith, ap length p.is-written)) in
-      rw (p.is-written, takes_after 0 l, is_ok)
+      let l = commands-take p.commands p.right (omega (arith, ap length p.is_written)) in
+      rw (p.is_written, takes_after 0 l, is_ok)
 
 -- The check accepts a page of at most 1,024 entries exactly where it is such a form.
 pub exact_commands : ExactCommands

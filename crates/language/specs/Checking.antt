@@ -1,7 +1,7 @@
 -- How a page is checked, entry by entry, types waiting; the last to come stands in front.
-use Rattle.std.specs.Prelude.{◌≡◌, ℕ, ◌+◌, ◌≤◌, Bool, cond, not, ◌&&◌, List, [], ◌∷◌, length, is_some, is_ok, Some, None, Ok, Err, Decides, Option, Result, ◌==◌, nat_lt}
+use Rattle.std.specs.Prelude.{ℕ, ◌+◌, ◌≤◌, cond, not, ◌&&◌, List, [], ◌∷◌, length, is_some, is_ok, Some, None, Ok, Err, Decides, Option, Result, ◌==◌, nat_lt}
 use Rattle.fault.specs.declared.Cause.{Cause}
-use Rattle.fault.specs.declared.Cause.TheVariants.{Call, Entry as AtEntry}
+use Rattle.fault.specs.declared.Cause.TheVariants.{Entry as AtEntry}
 use Rattle.fault.specs.declared.Ground.{Ground}
 use Rattle.fault.specs.declared.Ground.TheVariants.{Code, NotUsable, TooFewWaiting, TooManyWaiting, WrongTypes, Remaining}
 use Rattle.fault.specs.declared.Place.TheVariants.{At, End}
@@ -19,8 +19,8 @@ abbrev pub waiting_for : ValueType → List ValueType → Waiting
 waiting_for t ws = cond (nat_lt (length ws) 1024) (Ok (t ∷ ws)) (Err TooManyWaiting)
 
 abbrev pub leaf : Ground → Option ValueType → List ValueType → Waiting
-leaf ground None ws = Err ground
-leaf ground (Some t) ws = waiting_for t ws
+leaf reason None ws = Err reason
+leaf reason (Some t) ws = waiting_for t ws
 
 -- The result in the place of its operands.
 abbrev pub replaced : Option ValueType → List ValueType → Waiting
@@ -50,7 +50,7 @@ after_entry sc e ws =
 
 abbrev pub located : Waiting → ℕ → ℕ → Result (List ValueType) Cause
 located (Ok ws) index item = Ok ws
-located (Err ground) index item = Err (AtEntry ground (At index item))
+located (Err reason) index item = Err (AtEntry reason (At index item))
 
 -- All entries, the first of them having that index; the first at fault stops it.
 abbrev pub after_entries : Scope → ℕ → List Entry → List ValueType → Result (List ValueType) Cause

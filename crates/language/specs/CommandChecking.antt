@@ -1,5 +1,5 @@
 -- How a command page is checked, entry by entry, types and receivers waiting.
-use Rattle.std.specs.Prelude.{◌≡◌, ℕ, ◌+◌, ◌≤◌, Bool, true, false, cond, not, ◌&&◌, ◌||◌, List, [], ◌∷◌, ◌++◌, map, reverse, length, take, is_ok, Some, None, Ok, Err, Decides, Option, Result, ◌==◌, nat_lt}
+use Rattle.std.specs.Prelude.{ℕ, ◌+◌, ◌≤◌, Bool, true, false, cond, not, ◌&&◌, List, [], ◌∷◌, ◌++◌, reverse, length, take, is_ok, Some, None, Ok, Err, Decides, Option, Result, ◌==◌, nat_lt}
 use Rattle.fault.specs.declared.Cause.{Cause}
 use Rattle.fault.specs.declared.Cause.TheVariants.{Entry as AtEntry}
 use Rattle.fault.specs.declared.Ground.{Ground}
@@ -25,7 +25,7 @@ Step = Result Waits Ground
 
 -- The grounds that follow one another: the first whose test says so.
 abbrev pub unless : Bool → Ground → Step → Step
-unless test ground rest = cond test (Err ground) rest
+unless test reason rest = cond test (Err reason) rest
 
 -- Does anything wait that the command does not take?
 abbrev pub remains : List ValueType → List ℕ → Bool
@@ -112,7 +112,7 @@ on_call b (Some q) w = calling b q w
 
 -- A code of an expression; receivers may not stand before it.
 abbrev pub valued : Waiting → List ℕ → Step
-valued (Err ground) rs = Err ground
+valued (Err reason) rs = Err reason
 valued (Ok ts) [] = Ok (record { types = ts; receivers = [] })
 valued (Ok ts) (r ∷ rs) = Err Remaining
 
@@ -128,7 +128,7 @@ after_command b e w =
 
 abbrev pub placed : Step → ℕ → ℕ → Result Waits Cause
 placed (Ok w) index item = Ok w
-placed (Err ground) index item = Err (AtEntry ground (At index item))
+placed (Err reason) index item = Err (AtEntry reason (At index item))
 
 -- All entries, the first of them having that index; the first at fault stops it.
 abbrev pub after_commands : BodyScope → ℕ → List Entry → Waits → Result Waits Cause

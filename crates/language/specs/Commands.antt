@@ -1,6 +1,6 @@
 -- Commands of a block, their postfix form, and when they are right.
 use Rattle.std.specs.Prelude.{◌≡◌, ℕ, Bool, true, false, cond, ◌&&◌, List, [], ◌∷◌, ◌++◌, map, Some, None, Option}
-use Rattle.std.specs.List.{flat_map, AllByRecursion as All}
+use Rattle.std.specs.List.{flat_map, AllByRecursion}
 use Rattle.page.specs.declared.Entry.{Entry}
 use Rattle.language.specs.declared.ValueType.{ValueType}
 use Rattle.language.specs.Codes.{bool}
@@ -94,5 +94,5 @@ pub data Right (b : BodyScope) : Command → Type 0 where
 -- The entries are the postfix form of right commands.
 pub record CommandPage (b : BodyScope) (entries : List Entry) : Type 0 where
   pub commands : List Command
-  pub is-written : entries ≡ flat_map written commands
-  pub right : All (Right b) commands
+  pub is_written : entries ≡ flat_map written commands
+  pub right : AllByRecursion (Right b) commands

@@ -2,7 +2,7 @@
 use Rattle.std.specs.Prelude.{◌≡◌, ℕ, Bool, cond, List, [], ◌∷◌, ◌++◌, is_some, Some, None, Option, ◌==◌}
 use Rattle.page.specs.declared.Entry.{Entry}
 use Rattle.language.specs.declared.ValueType.{ValueType}
-use Rattle.language.specs.Codes.{bool, int, word_type, unary_type, binary_type}
+use Rattle.language.specs.Codes.{int, word_type, unary_type, binary_type}
 
 -- An expression with its names as they are written. A word is false, true or null; operators go by their codes.
 pub data Expression : Type 0 where

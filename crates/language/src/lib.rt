@@ -1,4 +1,6 @@
 //! The types and the expression codes of the language.
+#![tactic(auto)]
+
 ghost use Rattle.language.specs.CommandChecking.{ExactCommands};
 ghost use Rattle.language.specs.Codes.{alike, result_of};
 ghost use Rattle.std.specs.Prelude.{◌≡◌};

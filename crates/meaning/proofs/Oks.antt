@@ -1,6 +1,6 @@
 -- A small logic of tellings: what is known of the tells after one.
 use Rattle.std.proofs.Common.{◌≡◌, ℕ, ◌<◌, List, [], ◌∷◌, map, length, Some, refl, arith}
-use Rattle.std.specs.List.{AllByRecursion as All}
+use Rattle.std.specs.List.{AllByRecursion}
 use Rattle.std.proofs.lemmas.Bool.{eq-eqb, ne_eqb}
 use Rattle.language.specs.Lists.{Alike}
 use Rattle.world.specs.Worlds.{Reading}
@@ -70,7 +70,7 @@ module _ {V : Type 0} (q : Reading V) where
   known_values s (e ∷ es) [] h = absurd h
   known_values s (e ∷ es) (v ∷ vs) h = rw (h.0.value, known_values s es vs h.1)
 
-  known_earlier : (s : List Tell) (es : List ℕ) (vs : List V) → KnowsAll vs s es → All (λ e. e < length s) es
+  known_earlier : (s : List Tell) (es : List ℕ) (vs : List V) → KnowsAll vs s es → AllByRecursion (λ e. e < length s) es
   known_earlier s [] vs h = tt
   known_earlier s (e ∷ es) [] h = absurd h
   known_earlier s (e ∷ es) (v ∷ vs) h = (h.0.entry, known_earlier s es vs h.1)

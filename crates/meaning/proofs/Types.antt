@@ -1,6 +1,6 @@
 -- Rightly typed expressions have values of their types.
 use Rattle.std.proofs.Common.{◌≡◌, ℕ, zero, suc, ◌<◌, Bool, true, false, ◌⊎◌, List, [], ◌∷◌, ◌++◌, map, length, get_or, take, Some, sym, refl, ◌∙◌, inl, inr}
-use Rattle.std.specs.List.{AllByRecursion as All, slice_get}
+use Rattle.std.specs.List.{AllByRecursion, slice_get}
 use Rattle.std.proofs.lemmas.Option.{slice_get-get_or}
 use Rattle.std.proofs.lemmas.Bool.{true≢false}
 use Rattle.language.specs.declared.ValueType.{ValueType}
@@ -24,7 +24,7 @@ get_or-nth (u ∷ ts) zero t d e = cc
 get_or-nth (u ∷ ts) (suc x) t d e = get_or-nth ts x t d e
 
 -- The modified globals are at their places among all variables.
-pub modified_places : (ts us : List ValueType) (gs : List ℕ) → All (λ g. g < length ts) gs → Places (ts ++ us) gs (map (λ g. get_or ts g bool) gs)
+pub modified_places : (ts us : List ValueType) (gs : List ℕ) → AllByRecursion (λ g. g < length ts) gs → Places (ts ++ us) gs (map (λ g. get_or ts g bool) gs)
 modified_places ts us [] h = tt
 modified_places ts us (g ∷ gs) h = (nth_left ts us g _ (slice_get-get_or ts g bool h.0), modified_places ts us gs h.1)
 
@@ -66,7 +66,7 @@ module _ {V : Type 0} (w : World V) where
 
   -- Values that are all of type bool.
   abbrev pub Bools : List V → Type 0
-  Bools vs = All (λ v. w.belongs bool v ≡ true) vs
+  Bools vs = AllByRecursion (λ v. w.belongs bool v ≡ true) vs
 
   -- The values of clauses are.
   pub clauses_bools : (cs ts os : List ValueType) (s o : List V) → Constants cs → Looks ts s → Looks os o → (es : List Expression) → Clauses cs ts os es → Bools (values w s o es)

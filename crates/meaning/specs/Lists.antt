@@ -1,5 +1,5 @@
 -- Words on lists that the other files share.
-use Rattle.std.specs.Prelude.{ℕ, zero, suc, List, [], ◌∷◌, set, slice_set}
+use Rattle.std.specs.Prelude.{ℕ, zero, suc, List, [], ◌∷◌, slice_set}
 
 -- The list with the given places set, one after another, to the given values, while both last.
 abbrev pub put : {A : Type 0} → List A → List ℕ → List A → List A

@@ -1,6 +1,6 @@
 -- A routine: a procedure with its body and all that it refers to, every name looked up.
-use Rattle.std.specs.Prelude.{◌≡◌, ℕ, zero, ◌<◌, true, List, [], ◌∷◌, ◌++◌, map, length, get_or, take, Some, slice_index_or}
-use Rattle.std.specs.List.{AllByRecursion as All, slice_get}
+use Rattle.std.specs.Prelude.{◌≡◌, ℕ, zero, ◌<◌, true, List, [], ◌∷◌, ◌++◌, map, length, take, Some, slice_index_or}
+use Rattle.std.specs.List.{AllByRecursion, slice_get}
 use Rattle.language.specs.declared.ValueType.{ValueType}
 use Rattle.language.specs.Codes.{bool}
 use Rattle.language.specs.Lists.{Alike}
@@ -74,7 +74,7 @@ view r s arguments outs = take (length r.globals) s ++ (arguments ++ outs)
 
 -- The types of the globals that a procedure modifies.
 abbrev pub modified_types : Routine → Procedure → List ValueType
-modified_types r p = map (λ g. get_or r.globals g bool) p.modifies
+modified_types r p = map (λ g. slice_index_or r.globals g bool) p.modifies
 
 -- The value of an expression in a world, `s` being the values of the variables now and `o` those that `old` means.
 abbrev pub value : {V : Type 0} → World V → List V → List V → Expression → V
@@ -105,7 +105,7 @@ AllTyped cs ts os es us = Alike (λ e t. Typed cs ts os e t) es us
 
 -- Expressions that are all of type bool, as clauses are.
 abbrev pub Clauses : (cs ts os : List ValueType) → List Expression → Type 0
-Clauses cs ts os es = All (λ e. Typed cs ts os e bool) es
+Clauses cs ts os es = AllByRecursion (λ e. Typed cs ts os e bool) es
 
 -- Places of a list of types that hold the types beside them.
 abbrev pub Places : List ValueType → List ℕ → List ValueType → Type 0
@@ -122,7 +122,7 @@ pub record SoundProcedure (r : Routine) (p : Procedure) : Type 0 where
   pub requires_typed : Clauses r.constants (r.globals ++ (p.ins ++ [])) [] p.requires
   pub ensures_typed : Clauses r.constants (r.globals ++ (p.ins ++ p.outs)) r.globals p.ensures
   -- the globals that it modifies, by number
-  pub modifies_globals : All (λ g. g < length r.globals) p.modifies
+  pub modifies_globals : AllByRecursion (λ g. g < length r.globals) p.modifies
   pub modifies_ascend : Ascending p.modifies
 
 -- A command that is rightly typed and without `old`. Arguments and receivers have the types of the parameters.
@@ -139,11 +139,11 @@ SoundCommand r (call p es xs) =
 
 -- All of them are.
 abbrev pub SoundCommands : Routine → List Command → Type 0
-SoundCommands r cs = All (SoundCommand r) cs
+SoundCommands r cs = AllByRecursion (SoundCommand r) cs
 
 -- Each target of block k is a later one of the n blocks, so that every run comes to an end.
 abbrev pub TargetsLater : ℕ → ℕ → List ℕ → Type 0
-TargetsLater k n ts = All (λ t. (k < t) × (t < n)) ts
+TargetsLater k n ts = AllByRecursion (λ t. (k < t) × (t < n)) ts
 
 -- A well-formed routine: some block, everything rightly typed, `old` only in ensures, targets later.
 pub record Sound (r : Routine) : Type 0 where

@@ -1,6 +1,6 @@
 -- The telling: which tells a routine's formula consists of, and in which order.
-use Rattle.std.specs.Prelude.{◌≡◌, ℕ, zero, suc, ◌+◌, ◌-◌, ◌<◌, Bool, true, false, cond, ◌||◌, List, [], ◌∷◌, ◌++◌, map, length, get_or, Some, ◌==◌, nat_eq, slice_index, slice_index_or, slice_set}
-use Rattle.std.specs.List.{AllByRecursion as All}
+use Rattle.std.specs.Prelude.{◌≡◌, ℕ, zero, suc, ◌+◌, ◌-◌, ◌<◌, Bool, true, false, cond, ◌||◌, List, [], ◌∷◌, ◌++◌, map, length, Some, ◌==◌, slice_index, slice_index_or, slice_set}
+use Rattle.std.specs.List.{AllByRecursion}
 use Rattle.language.specs.declared.ValueType.{ValueType}
 use Rattle.language.specs.Codes.{bool}
 use Rattle.world.specs.Worlds.{Reading, OfTypes}
@@ -126,7 +126,7 @@ places r m n k (b ∷ bs) =
 
 -- All blocks; the first is where a run begins.
 abbrev pub layout : Routine → List Placed
-layout r = places r (λ k. nat_eq k 0) 0 0 r.blocks
+layout r = places r (λ k. k == 0) 0 0 r.blocks
 
 -- What stands for the place of a block that there is not.
 abbrev pub nowhere : Placed
@@ -187,10 +187,10 @@ unbegun = record { placed = nowhere; symbols = []; passed = record { checks = []
 -- The formulas of the targets joined by "and", from the last on; a return has a told true. `xs` and `fs` are the later blocks and their formulas, from number k on.
 abbrev pub tell_targets : ℕ → List (Begun ℕ) → List ℕ → List ℕ → List ℕ → Telling ℕ
 tell_targets k xs fs ending [] = tell 2 0 []
-tell_targets k xs fs ending (t ∷ []) = tell_links (get_or xs (t - k) unbegun).symbols ending (slice_index fs (t - k))
+tell_targets k xs fs ending (t ∷ []) = tell_links (slice_index_or xs (t - k) unbegun).symbols ending (slice_index fs (t - k))
 tell_targets k xs fs ending (t ∷ u ∷ ts) = do
   y ← tell_targets k xs fs ending (u ∷ ts)
-  x ← tell_links (get_or xs (t - k) unbegun).symbols ending (slice_index fs (t - k))
+  x ← tell_links (slice_index_or xs (t - k) unbegun).symbols ending (slice_index fs (t - k))
   tell 26 0 (x ∷ y ∷ [])
 
 -- Conditions before a formula, last to first: a tested one is joined by "and", an assumed one implies it.
@@ -247,7 +247,7 @@ formula_value q r = told_value q (told r).1 (told r).0
 
 -- A tell that a reading binds, after the tells s: its operands are earlier tells, as many as its code has, and truth values where its code is of logic.
 pub record LawfulTell {V : Type 0} (q : Reading V) (s : List Tell) (t : Tell) : Type 0 where
-  pub earlier : All (λ e. e < length s) t.operands
+  pub earlier : AllByRecursion (λ e. e < length s) t.operands
   pub count : arity t.code ≡ Some (length t.operands)
   pub binds : Binds q t.code (map (told_value q s) t.operands)
 

@@ -1,4 +1,6 @@
 //! What a routine's formula means: it is false exactly where a run goes wrong.
+#![tactic(auto)]
+
 ghost use Rattle.meaning.specs.Examples.{Examples, NotVacuous};
 ghost use Rattle.meaning.specs.Promise.{Promises};
 

@@ -1,4 +1,6 @@
 //! Names and types in pages: ranges, repetitions, and the groups of names that a book holds.
+#![tactic(auto)]
+
 ghost use Rattle.names.specs.Names.{fresh, is_bare_name, is_name, is_type};
 ghost use Rattle.language.specs.Expressions.{has};
 ghost use Rattle.language.specs.Lists.{member};

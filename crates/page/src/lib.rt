@@ -1,4 +1,6 @@
 //! The page reader: a page of numbers taken apart where it lies, with nothing copied.
+#![tactic(auto)]
+
 ghost use Rattle.page.specs.Pages.{Whole, page_of, shown};
 ghost use Rattle.std.specs.Prelude.{◌≡◌, IfSome};
 ghost use Rattle.std.specs.Option.{option_map};

@@ -1,5 +1,5 @@
 -- What the guard finds is what the lists hold.
-use Rattle.std.proofs.Common.{◌≡◌, ℕ, ◌+◌, ◌<◌, ◌≤◌, Bool, true, false, cond, not, ◌&&◌, ◌||◌, leb, List, [], ◌∷◌, ◌++◌, map, length, take, drop, Some, None, Option, sym, refl, ap, ◌∙◌, subst, zero-add, arith}
+use Rattle.std.proofs.Common.{◌≡◌, ℕ, ◌+◌, ◌≤◌, Bool, true, false, cond, ◌&&◌, leb, List, [], ◌∷◌, map, length, take, drop, Some, None, sym, refl, ap, ◌∙◌, zero-add, arith}
 use Rattle.std.proofs.lemmas.List.{length-append, length-drop, length-take-le}
 use Rattle.std.proofs.lemmas.Bool.{and_parts}
 use Rattle.std.proofs.lemmas.Bool.Decides.{nat_tests}
@@ -7,10 +7,10 @@ use Rattle.page.specs.declared.Entry.{Entry}
 use Rattle.records.specs.declared.lists.Clause.{Clause}
 use Rattle.records.specs.declared.lists.Declaration.{Declaration}
 use Rattle.records.specs.declared.lists.DeclarationKind.{DeclarationKind}
-use Rattle.records.specs.declared.lists.DeclarationKind.TheVariants.{Constants, Globals, Procedure}
+use Rattle.records.specs.declared.lists.DeclarationKind.TheVariants.{Constants, Globals}
 use Rattle.records.specs.declared.lists.Totals.{Totals}
 use Rattle.records.specs.Kinds.{same_declaration}
-use Rattle.records.specs.Book.{Declared, declared_as, procedures_in, constants, globals, procedures}
+use Rattle.records.specs.Book.{declared_as, procedures_in, constants, globals, procedures}
 use Rattle.records.specs.Held.{Stored, book_in, clauses_fit, declaration_fits, declarations_fit, declared_in, parameters_fit, sound, sound_book, within_limits}
 use Rattle.records.specs.Sizes.{adding, few, none, procedure_count, size_of, surveyed}
 use Rattle.records.proofs.Steps.{few_few}

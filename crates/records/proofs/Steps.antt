@@ -1,5 +1,5 @@
 -- The records that stand for none, and the steps of a survey.
-use Rattle.std.proofs.Common.{◌≡◌, ℕ, ◌+◌, ◌<◌, ◌≤◌, Bool, true, false, cond, ◌&&◌, List, [], ◌∷◌, length, get_or, drop, Some, None, Option, sym, refl, ap, ◌∙◌, add_assoc, arith}
+use Rattle.std.proofs.Common.{◌≡◌, ℕ, ◌+◌, ◌<◌, ◌≤◌, true, false, List, [], ◌∷◌, length, get_or, drop, Some, None, Option, sym, ap, ◌∙◌, add_assoc, arith}
 use Rattle.std.proofs.lemmas.List.{at_drop_more, at_drop_all}
 use Rattle.std.proofs.lemmas.Bool.Decides.{nat_tests}
 use Rattle.page.specs.declared.Entry.{Entry}
@@ -8,8 +8,8 @@ use Rattle.records.specs.declared.lists.ClauseKind.TheVariants.{Axiom}
 use Rattle.records.specs.declared.lists.Declaration.{Declaration}
 use Rattle.records.specs.declared.lists.DeclarationKind.TheVariants.{Constants}
 use Rattle.records.specs.declared.lists.Totals.{Totals}
-use Rattle.records.specs.Held.{declaration_fits, declarations_fit}
-use Rattle.records.specs.Sizes.{Few, adding, counting, few, surveyed}
+use Rattle.records.specs.Held.{declaration_fits}
+use Rattle.records.specs.Sizes.{Few, counting, few, surveyed}
 
 abbrev pub no_declaration : Declaration
 no_declaration = record { kind = Constants; name = 0; start = 0; a = 0; b = 0 }

@@ -5,7 +5,7 @@ use Rattle.page.specs.declared.Entry.{Entry}
 use Rattle.records.specs.declared.lists.DeclarationKind.{DeclarationKind}
 use Rattle.records.specs.declared.lists.DeclarationKind.TheVariants.{Constants, Globals, Procedure}
 use Rattle.records.specs.declared.lists.ClauseKind.{ClauseKind}
-use Rattle.records.specs.declared.lists.ClauseKind.TheVariants.{Axiom, Requires, Ensures, Modifies}
+use Rattle.records.specs.declared.lists.ClauseKind.TheVariants.{Axiom, Modifies}
 use Rattle.records.specs.Kinds.{same_declaration, same_clause}
 
 -- Constants, globals, or a procedure with so many in-parameters. An entry is a name and the number of its type.

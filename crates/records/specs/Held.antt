@@ -6,12 +6,11 @@ use Rattle.records.specs.declared.lists.ClauseKind.{ClauseKind}
 use Rattle.records.specs.declared.lists.ClauseKind.TheVariants.{Axiom, Requires, Ensures, Modifies}
 use Rattle.records.specs.declared.lists.Counts.{Counts}
 use Rattle.records.specs.declared.lists.Declaration.{Declaration}
-use Rattle.records.specs.declared.lists.DeclarationKind.{DeclarationKind}
-use Rattle.records.specs.declared.lists.DeclarationKind.TheVariants.{Constants, Globals, Procedure}
+use Rattle.records.specs.declared.lists.DeclarationKind.TheVariants.{Procedure}
 use Rattle.records.specs.declared.lists.HeldBook.{HeldBook}
 use Rattle.records.specs.declared.lists.Lists.{Lists}
 use Rattle.records.specs.Kinds.{same_declaration, same_clause}
-use Rattle.records.specs.Book.{Declared, Stated, Book, constants, globals, procedures, belongs, stated_as}
+use Rattle.records.specs.Book.{Declared, Stated, Book, constants, globals, procedures, belongs}
 
 -- The contents of the lists.
 pub record Stored : Type 0 where

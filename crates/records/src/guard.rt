@@ -131,7 +131,7 @@ fn sound_book<'a>(
     clauses: &'a [Clause],
     entries: &'a [Entry],
 ) -> Option<HeldBook<'a>>
-    ensures is { option_map book_of result ≡ sound_book (record { declarations = declarations.entry.now; clauses = clauses.now; entries = entries.now }) }
+    ensures is { option_map book_of result ≡ sound_book (record { declarations = declarations.now; clauses = clauses.now; entries = entries.now }) }
     ensures counted { IfSome result Counted }
 {
     let Some(totals) = survey(declarations, entries.len()) else {

@@ -1,4 +1,6 @@
 //! Sinks: what a formula is told to, entry by entry.
+#![tactic(auto)]
+
 ghost use Rattle.std.specs.Prelude.{◌≡◌, ℕ, Bool};
 ghost use Rattle.sink.specs.Causes.{Answer, cause_number};
 ghost use Rattle.sink.specs.Laws.{Told};

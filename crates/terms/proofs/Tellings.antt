@@ -4,6 +4,7 @@ use Rattle.std.proofs.lemmas.Bool.{cond-true, cond-false}
 use Rattle.sink.specs.declared.Cause.TheVariants.{Operands, Full}
 use Rattle.sink.specs.Causes.{Answer}
 use Rattle.sink.specs.Laws.{apt}
+use Rattle.world.specs.declared.Carrier.{Ghosts}
 use Rattle.world.specs.Tells.{Tell}
 use Rattle.terms.specs.declared.Terms.{Terms}
 use Rattle.terms.specs.Held.{Held, Outcome, spare_of, grown_by, told_to}
@@ -32,19 +33,19 @@ module _ (t : Tell) (h : Held) where
   told_more : apt h.used t ≡ true → eqb (spare_of h) 0 ≡ false → record { answer = Ok h.used; held = grown_by t h } ≡ told_to t h
   told_more a n = sym (cond-true (apt h.used t) suited unsuited a ∙ cond-false (eqb (spare_of h) 0) _ _ n)
 
-module _ {C : Type 0} (s : Terms C) (t : Tell) where
+module _ {C : Type 0} {G : Ghosts C} (s : Terms C G) (t : Tell) where
   -- Unsuited operands are refused.
-  pub step_unsuited : (z : Terms C) → z ≡ s → apt s.used t ≡ false → Steps s t (Err Operands) z
-  step_unsuited z same a = record { told = ap (λ (x : Terms C). record { answer = Err Operands; held = held x }) same ∙ told_unsuited t (held s) a; stays = same }
+  pub step_unsuited : (z : Terms C G) → z ≡ s → apt s.used t ≡ false → Steps s t (Err Operands) z
+  step_unsuited z same a = record { told = ap (λ (x : Terms C G). record { answer = Err Operands; held = held x }) same ∙ told_unsuited t (held s) a; stays = same }
 
   -- At spare 0 there is no room.
-  pub step_full : (z : Terms C) → z ≡ s → apt s.used t ≡ true → eqb (spare_of (held s)) 0 ≡ true → Steps s t (Err Full) z
-  step_full z same a n = record { told = ap (λ (x : Terms C). record { answer = Err Full; held = held x }) same ∙ told_full t (held s) a n; stays = same }
+  pub step_full : (z : Terms C G) → z ≡ s → apt s.used t ≡ true → eqb (spare_of (held s)) 0 ≡ true → Steps s t (Err Full) z
+  step_full z same a n = record { told = ap (λ (x : Terms C G). record { answer = Err Full; held = held x }) same ∙ told_full t (held s) a n; stays = same }
 
   -- Else there is one more entry.
-  pub step_more : (z : Terms C) → apt s.used t ≡ true → eqb (spare_of (held s)) 0 ≡ false → held z ≡ grown_by t (held s) → Lent s z → Steps s t (Ok s.used) z
+  pub step_more : (z : Terms C G) → apt s.used t ≡ true → eqb (spare_of (held s)) 0 ≡ false → held z ≡ grown_by t (held s) → Lent s z → Steps s t (Ok s.used) z
   step_more z a n grown lent = record { told = ap (λ (x : Held). record { answer = Ok s.used; held = x }) grown ∙ told_more t (held s) a n; stays = lent }
 
 -- What a way out owes, from its step.
-pub owed : {C : Type 0} (V : Type 0) (s : Terms C) (t : Tell) (a : Answer) (z : Terms C) → Steps s t a z → record { told : TermTold V s t a z; steps : Steps s t a z }
+pub owed : {C : Type 0} {G : Ghosts C} (V : Type 0) (s : Terms C G) (t : Tell) (a : Answer) (z : Terms C G) → Steps s t a z → record { told : TermTold V s t a z; steps : Steps s t a z }
 owed V s t a z step = record { told = term_lawful V s t a z step; steps = step }

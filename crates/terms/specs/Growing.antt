@@ -2,7 +2,7 @@
 use Rattle.std.specs.Prelude.{◌≡◌, ℕ, ◌+◌, ◌<◌, ◌≤◌, true, false, cond, ◌||◌, List, [], ◌∷◌, ◌++◌, map, length, take, drop, Some, None, Option, ◌==◌, nat_le, slice_index_or, refl}
 use Rattle.std.proofs.Common.{sym, ap, subst, ◌∙◌, arith}
 use Rattle.std.proofs.Math.Seq.{paste}
-use Rattle.std.specs.List.{AllByRecursion as All}
+use Rattle.std.specs.List.{AllByRecursion}
 use Rattle.std.proofs.lemmas.List.Edits.{length-paste}
 use Rattle.std.proofs.ByRecursion.{All-get_or, All-push, All-weaker}
 use Rattle.std.proofs.lemmas.List.{take_more_set, take-take, drop-take, take_at, drop_at, take_all, append_assoc, length-set, length-take-le, length_push, get_or_append_left, get_or_push, get_or-take}
@@ -16,12 +16,12 @@ use Rattle.terms.specs.declared.Term.{Term}
 use Rattle.terms.specs.Held.{among, Held, spare_of, new_term, grown_by, operands_in, looked, entered, grown, values_of, value_of}
 
 -- What the test of the records says.
-pub all_among : (placed : ℕ) (ts : List Term) → among placed ts ≡ true → All (λ t. t.first + t.count ≤ placed) ts
+pub all_among : (placed : ℕ) (ts : List Term) → among placed ts ≡ true → AllByRecursion (λ t. t.first + t.count ≤ placed) ts
 all_among placed [] h = tt
 all_among placed (t ∷ ts) h = let p = and_parts (nat_le (t.first + t.count) placed) (among placed ts) h in (leb-true (t.first + t.count) placed p.0, all_among placed ts p.1)
 
 -- The test of the records, from what it says.
-pub among_all : (placed : ℕ) (ts : List Term) → All (λ t. t.first + t.count ≤ placed) ts → among placed ts ≡ true
+pub among_all : (placed : ℕ) (ts : List Term) → AllByRecursion (λ t. t.first + t.count ≤ placed) ts → among placed ts ≡ true
 among_all placed [] h = refl
 among_all placed (t ∷ ts) (h, k) = and_from (nat_le (t.first + t.count) placed) (among placed ts) (le-leb (t.first + t.count) placed h) (among_all placed ts k)
 
@@ -74,7 +74,7 @@ module _ {V : Type 0} (q : Reading V) where
   length-grown places vs (u ∷ ts) = let h = length-grown places (vs ++ (entered q places vs u ∷ [])) ts in let k = length_push vs (entered q places vs u) in omega arith
 
   -- only the places that the records use matter
-  grown_same : (places places' : List ℕ) (n : ℕ) → take n places ≡ take n places' → (vs : List V) (ts : List Term) → All (λ t. t.first + t.count ≤ n) ts → grown q places' vs ts ≡ grown q places vs ts
+  grown_same : (places places' : List ℕ) (n : ℕ) → take n places ≡ take n places' → (vs : List V) (ts : List Term) → AllByRecursion (λ t. t.first + t.count ≤ n) ts → grown q places' vs ts ≡ grown q places vs ts
   grown_same places places' n same vs [] a = refl
   grown_same places places' n same vs (u ∷ ts) (h, a) =
       let e : entered q places' vs u ≡ entered q places vs u = ap (λ ks. meant q u.code u.argument (map (looked q vs) ks)) (operands_same places places' n same u h) in
@@ -89,7 +89,7 @@ module _ {V : Type 0} (q : Reading V) where
 pub record Sound (h : Held) : Type 0 where
   pub fit : h.used ≤ length h.records
   pub room : h.placed ≤ length h.places
-  pub operands : All (λ t. t.first + t.count ≤ h.placed) (take h.used h.records)
+  pub operands : AllByRecursion (λ t. t.first + t.count ≤ h.placed) (take h.used h.records)
 
 -- One more entry, where there is spare for it.
 module _ (t : Tell) (h : Held) (on : Sound h) (suits : apt h.used t ≡ true) (spare : 0 < spare_of h) where
@@ -116,7 +116,7 @@ module _ (t : Tell) (h : Held) (on : Sound h) (suits : apt h.used t ≡ true) (s
   pub among_more : among (grown_by t h).placed (take (h.used + 1) (grown_by t h).records) ≡ true
   among_more =
       let P : Term → Type 0 = λ u. u.first + u.count ≤ h.placed + length t.operands in
-      let old : All P (take h.used h.records) = All-weaker (λ u. u.first + u.count ≤ h.placed) P (λ u b. omega arith) (take h.used h.records) on.operands in
+      let old : AllByRecursion P (take h.used h.records) = All-weaker (λ u. u.first + u.count ≤ h.placed) P (λ u b. omega arith) (take h.used h.records) on.operands in
       let new : P (new_term t h) = omega arith in
       ap (among (grown_by t h).placed) records_more ∙ among_all (grown_by t h).placed (take h.used h.records ++ (new_term t h ∷ [])) (All-push P (take h.used h.records) (new_term t h) old new)
 

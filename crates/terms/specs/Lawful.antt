@@ -7,6 +7,7 @@ use Rattle.sink.specs.declared.Cause.TheVariants.{Operands, Code, Full}
 use Rattle.sink.specs.Causes.{Answer}
 use Rattle.sink.specs.Laws.{apt, Told}
 use Rattle.world.specs.Tells.{Tell}
+use Rattle.world.specs.declared.Carrier.{Ghosts}
 use Rattle.terms.specs.declared.Terms.{Terms}
 use Rattle.terms.specs.Held.{Held, Outcome, spare_of, value_of, grown_by, told_to}
 use Rattle.terms.specs.Steps.{held, Steps}
@@ -55,17 +56,17 @@ module _ (t : Tell) (h : Held) where
       (λ a n k. let l = answers k in let b : ◌≡◌ {A = ℕ} 0 1 = cc in absurd (omega arith))
       same
 
-module _ {C : Type 0} (V : Type 0) where
+module _ {C : Type 0} {G : Ghosts C} (V : Type 0) where
   -- What the laws ask of a term list's tell.
-  abbrev pub TermTold : Terms C → Tell → Answer → Terms C → Type 0
-  TermTold = Told {S = Terms C} {V = V} (λ s q. Unit {0}) (λ s. s.used) (λ s q k. value_of (held s) q k) (λ s c. true) (λ s. spare_of (held s))
+  abbrev pub TermTold : Terms C G → Tell → Answer → Terms C G → Type 0
+  TermTold = Told {S = Terms C G} {V = V} (λ s q. Unit {0}) (λ s. s.used) (λ s q k. value_of (held s) q k) (λ s c. true) (λ s. spare_of (held s))
 
   -- What the ghost fields say.
-  pub sound_of : (s : Terms C) → Sound (held s)
+  pub sound_of : (s : Terms C G) → Sound (held s)
   sound_of s = record { fit = s.fit; room = s.room; operands = all_among s.placed (take s.used s.records.now) s.operands }
 
   -- One more entry keeps the laws of an accepted tell.
-  accepted : (s : Terms C) (t : Tell) (e : ℕ) (z : Terms C) → Grew t (held s) e (held z) → TermTold s t (Ok e) z
+  accepted : (s : Terms C G) (t : Tell) (e : ℕ) (z : Terms C G) → Grew t (held s) e (held z) → TermTold s t (Ok e) z
   accepted s t e z g =
       let h = held s in
       let used : z.used ≡ s.used + 1 = ap (λ (x : Held). x.used) g.grown in
@@ -84,12 +85,12 @@ module _ {C : Type 0} (V : Type 0) where
       }
 
   -- And nothing more those of a refused one.
-  refused : (s : Terms C) (t : Tell) (c : Cause) (z : Terms C) → z ≡ s → Shows t (held s) c → TermTold s t (Err c) z
+  refused : (s : Terms C G) (t : Tell) (c : Cause) (z : Terms C G) → z ≡ s → Shows t (held s) c → TermTold s t (Err c) z
   refused s t Operands z same a = (same, a)
   refused s t Code z same a = absurd a
   refused s t Full z same (a, n) = (same, a, refl, n)
 
   -- Each step of a term list keeps the laws.
-  pub term_lawful : (s : Terms C) (t : Tell) (a : Answer) (z : Terms C) → Steps s t a z → TermTold s t a z
+  pub term_lawful : (s : Terms C G) (t : Tell) (a : Answer) (z : Terms C G) → Steps s t a z → TermTold s t a z
   term_lawful s t (Ok e) z step = accepted s t e z (grew t (held s) e (held z) step.told)
   term_lawful s t (Err c) z step = refused s t c z step.stays (shows t (held s) c (held z) step.told)

@@ -1,4 +1,6 @@
 //! The term list: a sink that keeps every told entry.
+#![tactic(auto)]
+
 mod list;
 mod reading;
 mod sinks;

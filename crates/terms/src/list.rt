@@ -9,7 +9,7 @@ use world::Carrier;
 impl<'a, C: Carrier + Drop> Terms<'a, C> {
     /// A term list with no entries, over these records and places.
     pub fn new(records: &'a mut [Term], places: &'a mut [u32], carrier: C) -> Terms<'a, C>
-        ensures held { held result ≡ record { records = records.entry.now; places = places.old; used = 0; placed = 0 } }
+        ensures held { held result ≡ record { records = records.old; places = places.old; used = 0; placed = 0 } }
         ensures lent { (result.records.ghost_name ≡ records.entry.ghost_name) × (result.places.ghost_name ≡ places.entry.ghost_name) }
     {
         Terms {

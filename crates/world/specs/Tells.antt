@@ -1,5 +1,5 @@
 -- Tells: what a sink is handed, and what each means in a reading.
-use Rattle.std.specs.Prelude.{◌≡◌, ℕ, Bool, true, false, cond, ◌||◌, List, [], ◌∷◌, Some, None, Option, ◌==◌}
+use Rattle.std.specs.Prelude.{◌≡◌, ℕ, Bool, true, cond, ◌||◌, List, [], ◌∷◌, Some, None, Option, ◌==◌}
 use Rattle.language.specs.Codes.{between}
 use Rattle.world.specs.Worlds.{Reading}
 

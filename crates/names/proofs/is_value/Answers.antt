@@ -5,14 +5,14 @@ use Rattle.language.specs.Expressions.{has}
 use Rattle.names.proofs.Leads.{has-append}
 use Rattle.names.proofs.is_value.Goals as goal
 
-pub returns-then-is-declared : goal.returns-then-is-declared
-returns-then-is-declared c =
-    c.if-is-declared.true
-    ∙ ap (λ (b : Bool). b || has c.args.name (constants (book_of c.args.book.now))) c.if-is-declared.ensures
+pub returns-then-is_declared : goal.returns-then-is_declared
+returns-then-is_declared c =
+    c.if-is_declared.true
+    ∙ ap (λ (b : Bool). b || has c.args.name (constants (book_of c.args.book.now))) c.if-is_declared.ensures
     ∙ sym (has-append c.args.name (globals (book_of c.args.book.now)) (constants (book_of c.args.book.now)))
 
-pub returns-else-is-declared : goal.returns-else-is-declared
-returns-else-is-declared c =
-    c.is-declared-else-is-declared.ensures
-    ∙ ap (λ (b : Bool). b || has c.args.name (constants (book_of c.args.book.now))) c.if-is-declared.ensures
+pub returns-else-is_declared : goal.returns-else-is_declared
+returns-else-is_declared c =
+    c.is_declared-else-is_declared.ensures
+    ∙ ap (λ (b : Bool). b || has c.args.name (constants (book_of c.args.book.now))) c.if-is_declared.ensures
     ∙ sym (has-append c.args.name (globals (book_of c.args.book.now)) (constants (book_of c.args.book.now)))

@@ -6,17 +6,17 @@ use Rattle.names.specs.Names.{is_bare_name}
 use Rattle.names.proofs.Leads.{lead_ends, lead_goes, lead_stops}
 use Rattle.names.proofs.leading_bare_names.Goals as goal
 
-pub returns-then-not-is-bare-name : goal.returns-then-not-is-bare-name
-returns-then-not-is-bare-name c =
+pub returns-then-not-is_bare_name : goal.returns-then-not-is_bare_name
+returns-then-not-is_bare_name c =
     let n = length-paired c.args.left.now c.args.right.now in
     lead_stops is_bare_name (paired c.args.left.now c.args.right.now) c.loop-i.i no_entry _ c.loop-i.invariant (omega arith)
-    (ap is_bare_name (get_or-paired c.args.left.now c.args.right.now c.loop-i.i no_entry (omega arith) (omega arith)) ∙ sym c.if-not-is-bare-name.ensures)
+    (ap is_bare_name (get_or-paired c.args.left.now c.args.right.now c.loop-i.i no_entry (omega arith) (omega arith)) ∙ sym c.if-not-is_bare_name.ensures)
 
 pub loop-i-preserved : goal.loop-i-preserved
 loop-i-preserved c =
     let n = length-paired c.args.left.now c.args.right.now in
     lead_goes is_bare_name (paired c.args.left.now c.args.right.now) c.loop-i.i no_entry _ c.loop-i.invariant (omega arith)
-    (ap is_bare_name (get_or-paired c.args.left.now c.args.right.now c.loop-i.i no_entry (omega arith) (omega arith)) ∙ sym c.if-not-is-bare-name.ensures)
+    (ap is_bare_name (get_or-paired c.args.left.now c.args.right.now c.loop-i.i no_entry (omega arith) (omega arith)) ∙ sym c.if-not-is_bare_name.ensures)
 
 pub returns : goal.returns
 returns c =

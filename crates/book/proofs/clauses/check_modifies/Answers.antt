@@ -7,7 +7,7 @@ use Rattle.records.proofs.Finds.{numbered_below}
 use Rattle.book.proofs.clauses.check_modifies.Goals as goal
 
 -- There are at most 64 procedures.
-pub overflow-cast-result : goal.overflow-cast-result
-overflow-cast-result c =
-    let n = numbered_below 0 c.args.name (procedures (book_of c.args.book.now)) (numbered c.in-Some.procedure) (ap (option_map numbered) (sym c.in-Some.is) ∙ c.find-procedure-found.ensures) in
+pub overflow_cast-result : goal.overflow_cast-result
+overflow_cast-result c =
+    let n = numbered_below 0 c.args.name (procedures (book_of c.args.book.now)) (numbered c.in-Some.procedure) (ap (option_map numbered) (sym c.in-Some.is) ∙ c.find_procedure-found.ensures) in
     omega arith

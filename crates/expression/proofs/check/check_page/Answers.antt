@@ -1,4 +1,4 @@
-use Rattle.std.proofs.Common.{◌≡◌, ◌<◌, length, sym, ◌∙◌, arith}
+use Rattle.std.proofs.Common.{◌<◌, length, ◌∙◌, arith}
 use Rattle.page.specs.Pages.{paired}
 use Rattle.page.proofs.Pairs.{length-paired}
 use Rattle.holder.specs.Holding.{held}
@@ -23,8 +23,8 @@ loop-i-preserved c =
     let rs = c.args.right.now in
     let h : c.loop-i.i < length ls = omega arith in
     let k : c.loop-i.i < length rs = omega arith in (
-      c.check-entry.ensures.room,
-      walk_goes (scope_of c.args.scope.now) ls rs c.loop-i.i (waits (held c.loop-i.waiting)) _ c.loop-i.invariant.1 h k (waits (held c.check-entry.new.waiting)) c.in-default.ensures.does,
+      c.check_entry.ensures.room,
+      walk_goes (scope_of c.args.scope.now) ls rs c.loop-i.i (waits (held c.loop-i.waiting)) _ c.loop-i.invariant.1 h k (waits (held c.check_entry.new.waiting)) c.in_default.ensures.does,
     )
 
 pub returns : goal.returns
@@ -32,6 +32,6 @@ returns c =
     let ls = c.args.left.now in
     let rs = c.args.right.now in
     let n = length-paired ls rs in
-    let e = c.check-end.ensures
+    let e = c.check_end.ensures
     ∙ ends_page (scope_of c.args.scope.now) ls rs c.loop-i.i c.min-count.result (waits (held c.loop-i.waiting)) c.loop-i.invariant.1 (omega arith) (omega arith) in
-    record { is = e; exact = exact_of (scope_of c.args.scope.now) (paired ls rs) c.check-end.result e }
+    record { is = e; exact = exact_of (scope_of c.args.scope.now) (paired ls rs) c.check_end.result e }

@@ -1,4 +1,4 @@
-use Rattle.std.proofs.Common.{◌≡◌, ◌-◌, ◌<◌, reverse, length, take, sym, ap, ◌∙◌, arith, rules}
+use Rattle.std.proofs.Common.{◌≡◌, ◌-◌, reverse, length, take, sym, ap, arith, rules}
 use Rattle.holder.specs.Holding.{held, popped_from}
 use Rattle.holder.proofs.Stacks.{waits_none, waits-pop, length-waits}
 use Rattle.holder.proofs.Holder.pop.Goals as goal

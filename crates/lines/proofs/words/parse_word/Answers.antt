@@ -21,14 +21,14 @@ loop-byte-preserved c = (
       ∙ c.loop-byte.invariant.1,
 )
 
-pub returns-then-value-lt-TOO-LARGE : goal.returns-then-value-lt-TOO-LARGE
-returns-then-value-lt-TOO-LARGE c =
-    let some : 0 < length c.args.word.now = omega (arith, false-eqb _ _ c.if-is-empty.ensures) in
-    small _ c.if-value-lt-TOO-LARGE.true
+pub returns-then-value-lt-TOO_LARGE : goal.returns-then-value-lt-TOO_LARGE
+returns-then-value-lt-TOO_LARGE c =
+    let some : 0 < length c.args.word.now = omega (arith, false-eqb _ _ c.if-is_empty.ensures) in
+    small _ c.if-value-lt-TOO_LARGE.true
     ∙ (sym (ends c.loop-byte.value c.args.word.now c.loop-byte.byte-index c.loop-byte-test.false) ∙ (c.loop-byte.invariant.1 ∙ whole _ some))
 
-pub returns-else-value-lt-TOO-LARGE : goal.returns-else-value-lt-TOO-LARGE
-returns-else-value-lt-TOO-LARGE c =
-    let some : 0 < length c.args.word.now = omega (arith, false-eqb _ _ c.if-is-empty.ensures) in
-    large _ c.if-value-lt-TOO-LARGE.false
+pub returns-else-value-lt-TOO_LARGE : goal.returns-else-value-lt-TOO_LARGE
+returns-else-value-lt-TOO_LARGE c =
+    let some : 0 < length c.args.word.now = omega (arith, false-eqb _ _ c.if-is_empty.ensures) in
+    large _ c.if-value-lt-TOO_LARGE.false
     ∙ (sym (ends c.loop-byte.value c.args.word.now c.loop-byte.byte-index c.loop-byte-test.false) ∙ (c.loop-byte.invariant.1 ∙ whole _ some))

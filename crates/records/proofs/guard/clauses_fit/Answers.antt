@@ -15,18 +15,18 @@ returns-then-not-lies c =
     fit_outside c.args.count c.args.procedures c.args.clauses.now c.loop-clause.clause-index _ c.loop-clause.invariant.2
     c.loop-clause-test.true c.if-not-lies.ensures
 
-pub returns-then-is-full : goal.returns-then-is-full
-returns-then-is-full c =
+pub returns-then-is_full : goal.returns-then-is_full
+returns-then-is_full c =
     fit_full c.args.count c.args.procedures c.args.clauses.now c.loop-clause.clause-index _ c.loop-clause.invariant.2
     c.loop-clause-test.true (get_or c.loop-clause.tally c.row-row.result 0)
     (row_counts c.loop-clause.tally (take c.loop-clause.clause-index c.args.clauses.now) (get_or c.args.clauses.now c.loop-clause.clause-index no_clause) c.row-row.result
     c.loop-clause.invariant.0
     (lies_row c.args.count c.args.procedures (get_or c.args.clauses.now c.loop-clause.clause-index no_clause) c.requires c.if-not-lies.ensures)
     c.row-row.ensures.is)
-    c.if-is-full.ensures
+    c.if-is_full.ensures
 
-pub overflow-add-tally : goal.overflow-add-tally
-overflow-add-tally c =
+pub overflow_add-tally : goal.overflow_add-tally
+overflow_add-tally c =
     let here = get_or c.args.clauses.now c.loop-clause.clause-index no_clause in
     let e = row_counts c.loop-clause.tally (take c.loop-clause.clause-index c.args.clauses.now) here c.row-row.result
     c.loop-clause.invariant.0 (lies_row c.args.count c.args.procedures here c.requires c.if-not-lies.ensures) c.row-row.ensures.is in
@@ -42,7 +42,7 @@ loop-clause-preserved c =
       fit_more c.args.count c.args.procedures c.args.clauses.now c.loop-clause.clause-index _ c.loop-clause.invariant.2
           c.loop-clause-test.true (get_or c.loop-clause.tally c.row-row.result 0)
           (row_counts c.loop-clause.tally (take c.loop-clause.clause-index c.args.clauses.now) here c.row-row.result c.loop-clause.invariant.0 r c.row-row.ensures.is)
-          c.if-is-full.ensures c.if-not-lies.ensures,
+          c.if-is_full.ensures c.if-not-lies.ensures,
     )
 
 pub returns : goal.returns

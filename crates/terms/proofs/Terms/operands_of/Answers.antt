@@ -4,8 +4,8 @@ use Rattle.terms.specs.Held.{record_at}
 use Rattle.terms.specs.Steps.{held}
 use Rattle.terms.proofs.Terms.operands_of.Goals as goal
 
-pub slice-bounds-result-end : goal.slice-bounds-result-end
-slice-bounds-result-end g c =
+pub slice_bounds-result-end : goal.slice_bounds-result-end
+slice_bounds-result-end g c =
     let s = c.args.self.now in
     let k = c.args.entry in
     let l : k < s.used = omega arith in

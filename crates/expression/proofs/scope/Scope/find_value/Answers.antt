@@ -11,4 +11,4 @@ returns-in-Some c =
 pub returns-in-None : goal.returns-in-None
 returns-in-None c =
     usable_later c.args.self.now.globals c.if-not-self.false c.args.name (globals (book_of c.args.self.now.book)) (constants (book_of c.args.self.now.book))
-    _ c.in-None.ensures c.find-declared-in-None.ensures
+    _ c.in-None.ensures c.find_declared-in-None.ensures

@@ -4,20 +4,20 @@ use Rattle.records.specs.Book.{stated_as}
 use Rattle.records.specs.Held.{stated_in}
 use Rattle.records.proofs.Finds.{count_no, count_yes}
 use Rattle.records.proofs.lists.HeldBook.count_clauses.Goals as goal
-use Rattle.records.proofs.lists.HeldBook.count_clauses.Goals.{then-belongs-to, else-belongs-to}
+use Rattle.records.proofs.lists.HeldBook.count_clauses.Goals.{then-belongs_to, else-belongs_to}
 
 pub loop-clause-preserved : goal.loop-clause-preserved
 loop-clause-preserved c =
-    elim c.if-belongs-to.branch [
-      | then-belongs-to w ↦ (
+    elim c.if-belongs_to.branch [
+      | then-belongs_to w ↦ (
         omega (arith, w.count-is, c.loop-clause.invariant.0),
         count_yes c.args.kind c.args.procedure c.args.self.now.entries.now c.args.self.now.clauses.now c.loop-clause.clause-index c.loop-clause.count _
-            c.loop-clause.invariant.1 c.loop-clause-test.true w.if-belongs-to.ensures c.if-belongs-to.count w.count-is,
+            c.loop-clause.invariant.1 c.loop-clause-test.true w.if-belongs_to.ensures c.if-belongs_to.count w.count-is,
       )
-      | else-belongs-to w ↦ (
+      | else-belongs_to w ↦ (
         omega (arith, w.count-is, c.loop-clause.invariant.0),
         count_no c.args.kind c.args.procedure c.args.self.now.entries.now c.args.self.now.clauses.now c.loop-clause.clause-index c.loop-clause.count _
-            c.loop-clause.invariant.1 c.loop-clause-test.true w.if-belongs-to.ensures c.if-belongs-to.count w.count-is,
+            c.loop-clause.invariant.1 c.loop-clause-test.true w.if-belongs_to.ensures c.if-belongs_to.count w.count-is,
       )
     ]
 

@@ -1,9 +1,9 @@
-use Rattle.std.proofs.Common.{◌≡◌, List, get_or, Some, ap, ◌∙◌, arith}
+use Rattle.std.proofs.Common.{List, get_or, Some, ap, ◌∙◌, arith}
 use Rattle.page.specs.declared.Entry.{Entry}
 use Rattle.records.proofs.Finds.{procedure_found, procedure_none, procedure_other, procedure_passed}
 use Rattle.records.proofs.Steps.{no_declaration}
 use Rattle.records.proofs.lists.HeldBook.find_procedure.Goals as goal
-use Rattle.records.proofs.lists.HeldBook.find_procedure.Goals.{then-is+else-declaration-name, else_is}
+use Rattle.records.proofs.lists.HeldBook.find_procedure.Goals.{then-is+else-declaration-name, else-is}
 
 pub returns-then-declaration-name : goal.returns-then-declaration-name
 returns-then-declaration-name c =
@@ -19,7 +19,7 @@ loop-declaration-preserved c =
         procedure_passed c.args.name c.args.self.now.entries.now c.args.self.now.declarations.now c.loop-declaration.declaration-index c.loop-declaration.number _
             c.loop-declaration.invariant.1 c.loop-declaration-test.true w.if-is.ensures w.if-declaration-name.false c.if-is.number w.number-is,
       )
-      | else_is w ↦ (
+      | else-is w ↦ (
         omega (arith, w.number-is, c.loop-declaration.invariant.0),
         procedure_other c.args.name c.args.self.now.entries.now c.args.self.now.declarations.now c.loop-declaration.declaration-index c.loop-declaration.number _
             c.loop-declaration.invariant.1 c.loop-declaration-test.true w.if-is.ensures c.if-is.number w.number-is,

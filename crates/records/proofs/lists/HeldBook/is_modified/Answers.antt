@@ -11,13 +11,13 @@ returns-in-Some c =
     ap is_some
     (look_found (modified_by c.args.procedure) (stated_in c.args.self.now.entries.now) c.args.name c.args.self.now.clauses.now
     c.loop-clause.clause-index no_clause _ c.loop-clause.invariant c.loop-clause-test.true c.in-Some.field-0
-    (c.in-Some.ensures ∙ ap (type_of c.args.name) c.modified-by.ensures))
+    (c.in-Some.ensures ∙ ap (type_of c.args.name) c.modified_by.ensures))
 
 pub loop-clause-preserved : goal.loop-clause-preserved
 loop-clause-preserved c =
     look_next (modified_by c.args.procedure) (stated_in c.args.self.now.entries.now) c.args.name c.args.self.now.clauses.now
     c.loop-clause.clause-index no_clause _ c.loop-clause.invariant c.loop-clause-test.true
-    (c.in-default.ensures ∙ ap (type_of c.args.name) c.modified-by.ensures)
+    (c.in_default.ensures ∙ ap (type_of c.args.name) c.modified_by.ensures)
 
 pub returns : goal.returns
 returns c =

@@ -9,15 +9,19 @@ use Rattle.terms.specs.Lawful.{sound_of}
 use Rattle.terms.proofs.Tellings.{step_unsuited, step_full, step_more, owed}
 use Rattle.terms.proofs.sinks.TermsSink.tell.Goals as goal
 
-pub invariant-of-self : goal.invariant-of-self
-invariant-of-self g c =
+pub invariant_of-self : goal.invariant_of-self
+invariant_of-self g c =
     let s = c.args.self.now in
     let t : Tell = record { code = c.args.code; argument = c.args.argument; operands = c.args.operands.now } in
     let suits : apt s.used t ≡ true = sym c.if-not-suited.ensures in
     let spare : 0 < spare_of (held s) = omega (arith, eqb-false (spare_of (held s)) 0 (search rules)) in
     let r = roomy t (held s) (sound_of g.C.Carrier.Value s) suits spare in
     let more = among_more t (held s) (sound_of g.C.Carrier.Value s) suits spare in
-    (search rules, (search rules, (ap (λ rs. among (s.placed + length t.operands) (take (s.used + 1) (set rs s.used (new_term t (held s))))) c.put-all.ensures.records ∙ more, tt)))
+    record {
+      fit = search rules;
+      room = search rules;
+      operands = ap (λ rs. among (s.placed + length t.operands) (take (s.used + 1) (set rs s.used (new_term t (held s))))) c.put_all.ensures.records ∙ more;
+    }
 
 pub returns-then-not-suited : goal.returns-then-not-suited
 returns-then-not-suited g c =
