@@ -1,6 +1,5 @@
 -- Which state of the book takes which call, and the state after it.
 use Rattle.std.specs.Prelude.{Ok, Err, Result}
-use Rattle.lines.specs.declared.calls.CallKind.{CallKind}
 use Rattle.lines.specs.declared.calls.CallKind.TheVariants.{Declare, Settle, Begin, Block, Finish, Write, Shut}
 use Rattle.lines.specs.declared.errors.LineError.{LineError}
 use Rattle.lines.specs.declared.errors.LineError.TheVariants.{NotTaken, NotAvailable}

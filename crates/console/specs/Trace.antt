@@ -1,7 +1,6 @@
 -- The line that a traced call prints, but for its end.
 use Rattle.std.specs.Prelude.{ℕ, List, ◌++◌, codes, decimal}
 use Rattle.fault.specs.declared.Report.{Report}
-use Rattle.lines.specs.declared.calls.CallKind.{CallKind}
 use Rattle.console.specs.declared.outcomes.Outcome.{Outcome}
 use Rattle.console.specs.declared.outcomes.Outcome.TheVariants.{Declared, Settled, Refused}
 use Rattle.lines.specs.Calls.{number_of}

@@ -1,4 +1,6 @@
 //! The command-line program: lines of numbers in, calls of the library, and lines of answers out.
+#![tactic(auto)]
+
 pub mod errors;
 pub mod numbers;
 pub mod outcomes;

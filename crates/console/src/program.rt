@@ -1,9 +1,9 @@
 //! The whole program: arguments, input, calls, and answers.
 use crate::errors::Failure;
 use crate::session::answer_lines;
-use anyhow::anyhow;
 use arguments::Options;
 use std::io::{BufWriter, Read, Write};
+use std::process::ExitCode;
 use std::{env, fs, io};
 
 const HELP: &str = "usage: vcgen [--trace] [--records N] [--operands N] [--work N] [--help] [FILE]
@@ -31,14 +31,14 @@ A line that is no call, or that the book's state does not take, ends the program
 error and status 1. A call that is refused does not.
 ";
 
-/// Runs the program. A failure is reported on standard error, and given back, so that the status is 1.
-pub fn run(rt: HostRuntime) -> anyhow::Result<()> {
+/// Runs the program. A failure is reported on standard error, and the status is 1.
+pub fn run(rt: HostRuntime) -> ExitCode {
     match answer_all(&rt) {
-        Ok(()) => Ok(()),
+        Ok(()) => ExitCode::SUCCESS,
         Err(failure) => {
             // Where standard error takes nothing, the status alone has to say it.
             let _ = eprintln!(rt; "vcgen: {failure}");
-            Err(anyhow!("the input or the arguments are in error"))
+            ExitCode::FAILURE
         }
     }
 }
@@ -54,7 +54,7 @@ fn answer_all(rt: &HostRuntime) -> Result<(), Failure> {
         return written(rt.print(HELP));
     }
     let text = input_text(rt, &options.file)?;
-    let mut out = BufWriter::new(rt.alloc(), rt.stdout()).map_err(|_| std::alloc::AllocError)?;
+    let mut out = BufWriter::new(rt.alloc(), rt.stdout()).map_err(Failure::Output)?;
     let answered = answer_lines(rt.alloc(), text.as_str(), options.trace, &mut out);
     // What was answered before an error stands.
     written(out.flush())?;

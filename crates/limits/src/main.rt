@@ -1,5 +1,8 @@
 //! The program `vcgen` on an input at each limit of a book, and one past it.
+#![tactic(auto)]
 
-fn main(rt: HostRuntime) -> anyhow::Result<()> {
+use std::process::ExitCode;
+
+fn main(rt: HostRuntime) -> ExitCode {
     console::program::run(rt)
 }

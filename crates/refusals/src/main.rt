@@ -1,5 +1,8 @@
 //! The program `vcgen` on an input with every refusal that a declaration can get.
+#![tactic(auto)]
 
-fn main(rt: HostRuntime) -> anyhow::Result<()> {
+use std::process::ExitCode;
+
+fn main(rt: HostRuntime) -> ExitCode {
     console::program::run(rt)
 }

@@ -1,5 +1,8 @@
 //! Checks declarations of BoogiePL that are handed in as lines of numbers.
+#![tactic(auto)]
 
-fn main(rt: HostRuntime) -> anyhow::Result<()> {
+use std::process::ExitCode;
+
+fn main(rt: HostRuntime) -> ExitCode {
     console::program::run(rt)
 }
