@@ -7,9 +7,10 @@ ghost use Rattle.std.specs.Prelude.{◌≡◌};
 use lines::words::parse_word;
 use std::env::Args;
 use std::fmt;
+use thiserror::Error;
 
 /// The lists whose sizes the arguments set.
-#[derive(Clone, Copy)]
+#[derive(Clone, Copy, Debug, PartialEq, Eq)]
 pub enum SizeOption {
     Records,
     Operands,
@@ -17,7 +18,7 @@ pub enum SizeOption {
 }
 
 /// The sizes of the lists that each Write gets. The library has no Write yet, so they are only kept.
-#[derive(Clone, Copy)]
+#[derive(Clone, Copy, Debug, PartialEq, Eq)]
 pub struct Sizes {
     pub records: u32,
     pub operands: u32,
@@ -25,7 +26,7 @@ pub struct Sizes {
 }
 
 /// What the arguments ask for.
-#[derive(Drop)]
+#[derive(Debug, Drop)]
 pub struct Options {
     /// Print a line for every call.
     pub trace: bool,
@@ -37,15 +38,19 @@ pub struct Options {
 }
 
 /// Why the arguments are not those of the program.
-#[derive(Drop)]
+#[derive(Debug, Drop, Error)]
 pub enum ArgumentError {
+    #[error("unknown option {0}")]
     UnknownOption(String),
+    #[error("{0}: missing number")]
     MissingSize(SizeOption),
+    #[error("{0}: not a number from 0 to 4294967295")]
     BadSize(SizeOption),
+    #[error("a second file {0}")]
     SecondFile(String),
 }
 
-/// What an argument is, where no size is awaited.
+/// What an argument is, where it is not the number of a size.
 #[derive(Clone, Copy)]
 enum Argument {
     Trace,
@@ -67,63 +72,47 @@ impl Sizes {
     pub fn with(self, size: SizeOption, number: u32) -> Sizes
         ensures { result ≡ sizes_with size number self }
     {
-        let Sizes {
-            records,
-            operands,
-            work,
-        } = self;
         match size {
             SizeOption::Records => Sizes {
                 records: number,
-                operands,
-                work,
+                ..self
             },
             SizeOption::Operands => Sizes {
-                records,
                 operands: number,
-                work,
+                ..self
             },
             SizeOption::Work => Sizes {
-                records,
-                operands,
                 work: number,
+                ..self
             },
         }
     }
 }
 
 impl Options {
-    /// What the program's arguments ask for. The first is the program's own name.
-    pub fn parse(arguments: Args) -> Result<Options, ArgumentError> {
+    /// What the program's arguments ask for.
+    pub fn parse(mut arguments: Args) -> Result<Options, ArgumentError> {
         let mut options = Options {
             trace: false,
             help: false,
             sizes: Sizes::USUAL,
             file: None,
         };
-        let mut awaited = None;
-        for argument in arguments.skip(1) {
-            awaited = match awaited {
-                Some(size) => options.set_size(size, argument.as_str())?,
-                None => options.take(argument)?,
-            };
+        // The program's own name.
+        arguments.next();
+        while let Some(argument) = arguments.next() {
+            match Argument::from(argument.as_str()) {
+                Argument::Trace => options.trace = true,
+                Argument::Help => options.help = true,
+                Argument::Size(size) => {
+                    let number = size_number(size, arguments.next())?;
+                    options.sizes = options.sizes.with(size, number);
+                }
+                Argument::UnknownOption => return Err(ArgumentError::UnknownOption(argument)),
+                Argument::File => options.set_file(argument)?,
+            }
         }
-        match awaited {
-            Some(size) => Err(ArgumentError::MissingSize(size)),
-            None => Ok(options),
-        }
-    }
-
-    /// Takes an argument, and answers which size is awaited behind it.
-    fn take(&mut self, argument: String) -> Result<Option<SizeOption>, ArgumentError> {
-        match argument_of(argument.as_str()) {
-            Argument::Trace => self.trace = true,
-            Argument::Help => self.help = true,
-            Argument::Size(size) => return Ok(Some(size)),
-            Argument::UnknownOption => return Err(ArgumentError::UnknownOption(argument)),
-            Argument::File => self.set_file(argument)?,
-        }
-        Ok(None)
+        Ok(options)
     }
 
     /// Sets the file, of which there is at most one.
@@ -134,56 +123,34 @@ impl Options {
         self.file = Some(file);
         Ok(())
     }
-
-    /// Sets a size; no other is awaited behind it.
-    fn set_size(
-        &mut self,
-        size: SizeOption,
-        text: &str,
-    ) -> Result<Option<SizeOption>, ArgumentError> {
-        let Ok(number) = parse_word(text.as_bytes()) else {
-            return Err(ArgumentError::BadSize(size));
-        };
-        self.sizes = self.sizes.with(size, number);
-        Ok(None)
-    }
 }
 
-/// What an argument is, where no size is awaited.
-fn argument_of(text: &str) -> Argument {
-    match text {
-        "--trace" => Argument::Trace,
-        "--help" => Argument::Help,
-        "--records" => Argument::Size(SizeOption::Records),
-        "--operands" => Argument::Size(SizeOption::Operands),
-        "--work" => Argument::Size(SizeOption::Work),
-        _ => {
-            if text.starts_with('-') {
-                Argument::UnknownOption
-            } else {
-                Argument::File
-            }
+/// The number of a size, which is the argument behind its option.
+fn size_number(size: SizeOption, argument: Option<String>) -> Result<u32, ArgumentError> {
+    let text = argument.ok_or(ArgumentError::MissingSize(size))?;
+    parse_word(text.as_str().as_bytes()).map_err(|_| ArgumentError::BadSize(size))
+}
+
+impl From<&str> for Argument {
+    fn from(text: &str) -> Argument {
+        match text {
+            "--trace" => Argument::Trace,
+            "--help" => Argument::Help,
+            "--records" => Argument::Size(SizeOption::Records),
+            "--operands" => Argument::Size(SizeOption::Operands),
+            "--work" => Argument::Size(SizeOption::Work),
+            _ if text.starts_with('-') => Argument::UnknownOption,
+            _ => Argument::File,
         }
     }
 }
 
 impl fmt::Display for SizeOption {
     fn fmt<W: fmt::Write>(&self, f: &mut fmt::Formatter<W>) -> fmt::Result {
-        match self {
-            SizeOption::Records => write!(f, "--records"),
-            SizeOption::Operands => write!(f, "--operands"),
-            SizeOption::Work => write!(f, "--work"),
-        }
-    }
-}
-
-impl fmt::Display for ArgumentError {
-    fn fmt<W: fmt::Write>(&self, f: &mut fmt::Formatter<W>) -> fmt::Result {
-        match self {
-            ArgumentError::UnknownOption(option) => write!(f, "unknown option {option}"),
-            ArgumentError::MissingSize(size) => write!(f, "{size}: missing number"),
-            ArgumentError::BadSize(size) => write!(f, "{size}: not a number from 0 to 4294967295"),
-            ArgumentError::SecondFile(file) => write!(f, "a second file {file}"),
-        }
+        f.write_str(match self {
+            SizeOption::Records => "--records",
+            SizeOption::Operands => "--operands",
+            SizeOption::Work => "--work",
+        })
     }
 }

@@ -16,6 +16,9 @@ use Rattle.records.specs.Held.{Stored, held_in}
 use Rattle.book.specs.declared.clauses.Stating.{Stating}
 use Rattle.book.specs.declared.states.Open.{Open}
 use Rattle.book.specs.declared.states.Settled.{Settled}
+use Rattle.book.specs.declared.kinds.Kind.{Kind}
+use Rattle.book.specs.declared.kinds.Kind.TheVariants.{Declaration, Clause}
+use Rattle.book.specs.Kinds.{kind_of}
 use Rattle.book.specs.Rules.{axiom_rule, condition_rule, count_of, modifies_rule, procedure_rule, stated_for, values_rule}
 
 -- What a call ends with: its answer, the counts of the book, and the contents of the lists.
@@ -26,7 +29,7 @@ pub record Ended : Type 0 where
 
 -- A refusal leaves all as it was.
 abbrev pub refused : Cause → Counts → Stored → Ended
-refused cause n st = record { answer = Err (record { block = 0; cause = cause }); counts = n; lists = st }
+refused cause n st = record { answer = Err (record { block = None; cause = cause }); counts = n; lists = st }
 
 -- The page's entries do not fit into the book's 65,536, or not into the list.
 abbrev pub overfull : Counts → Stored → Sheet → Bool
@@ -80,28 +83,33 @@ abbrev pub accepting : {A : Type 0} → Option Cause → A → Result A Cause
 accepting None a = Ok a
 accepting (Some cause) a = Err cause
 
+-- The book that the lists hold, where the sizes suit the call.
+abbrev pub book_for : Bool → Counts → Stored → Result Book Cause
+book_for suits n st =
+    cond suits (elim (held_in n st) [ Some b ↦ Ok b | None ↦ Err (Call Lists) ]) (Err (Call Form))
+
 -- First the sizes are looked at, then whether the lists hold a book, and then the rule.
 abbrev pub verdict : {A : Type 0} → Bool → Counts → Stored → (Book → Result A Cause) → Result A Cause
 verdict suits n st rule =
     cond suits (elim (held_in n st) [ Some b ↦ rule b | None ↦ Err (Call Lists) ]) (Err (Call Form))
 
--- Constants or globals: the number of the first.
-abbrev pub values_verdict : DeclarationKind → ℕ → Sheet → Counts → Stored → Result ℕ Cause
-values_verdict kind name p n st =
-    verdict (nat_lt 0 p.a && p.b == 0) n st
-    (λ b. accepting (values_rule kind name p (no_declaration_left n st p) b) (count_of kind b))
+-- A page of constants or globals has a first name and no second size; a procedure has at most 16 in- and 16 out-parameters.
+abbrev pub sizes_suit : DeclarationKind → Sheet → Bool
+sizes_suit Constants p = nat_lt 0 p.a && p.b == 0
+sizes_suit Globals p = nat_lt 0 p.a && p.b == 0
+sizes_suit Procedure p = nat_le p.a 16 && nat_le p.b 16
 
--- A procedure: its number.
-abbrev pub procedure_verdict : ℕ → Sheet → Counts → Stored → Result ℕ Cause
-procedure_verdict name p n st =
-    verdict (nat_le p.a 16 && nat_le p.b 16) n st
-    (λ b. accepting (procedure_rule name p (no_declaration_left n st p) b) (count_of Procedure b))
+-- Constants or globals by their rule: the number of the first; and a procedure: its number.
+abbrev pub declaration_ruled : DeclarationKind → ℕ → Sheet → Bool → Book → Result ℕ Cause
+declaration_ruled Constants name p full b = accepting (values_rule Constants name p full b) (count_of Constants b)
+declaration_ruled Globals name p full b = accepting (values_rule Globals name p full b) (count_of Globals b)
+declaration_ruled Procedure name p full b = accepting (procedure_rule name p full b) (count_of Procedure b)
 
--- An axiom: its number.
-abbrev pub axiom_verdict : ℕ → Sheet → Counts → Stored → Result Stating Cause
-axiom_verdict name p n st =
-    verdict (p.b == 0) n st
-    (λ b. accepting (axiom_rule name p (no_clause_left n st p) b) (record { procedure = 0; number = length (clauses_of Axiom 0 b) }))
+-- Only a procedure has a name.
+abbrev pub name_for : DeclarationKind → ℕ → ℕ
+name_for Constants name = 0
+name_for Globals name = 0
+name_for Procedure name = name
 
 -- The number of the named procedure, which an accepted clause has.
 abbrev pub number_in : Option Numbered → ℕ
@@ -112,27 +120,27 @@ number_in (Some q) = q.number
 abbrev pub stating : ClauseKind → ℕ → Book → Stating
 stating kind name b = record { procedure = number_in (procedure_named name b); number = stated_for kind (procedure_named name b) b }
 
-abbrev pub condition_verdict : ClauseKind → ℕ → Sheet → Counts → Stored → Result Stating Cause
-condition_verdict kind name p n st =
-    verdict (p.b == 0) n st
-    (λ b. accepting (condition_rule kind name p (no_clause_left n st p) b) (stating kind name b))
+-- A clause by the rule of its kind; an axiom's number is its own among the axioms.
+abbrev pub clause_ruled : ClauseKind → ℕ → Sheet → Bool → Book → Result Stating Cause
+clause_ruled Axiom name p full b = accepting (axiom_rule name p full b) (record { procedure = 0; number = length (clauses_of Axiom 0 b) })
+clause_ruled Requires name p full b = accepting (condition_rule Requires name p full b) (stating Requires name b)
+clause_ruled Ensures name p full b = accepting (condition_rule Ensures name p full b) (stating Ensures name b)
+clause_ruled Modifies name p full b = accepting (modifies_rule name p full b) (stating Modifies name b)
 
-abbrev pub modifies_verdict : ℕ → Sheet → Counts → Stored → Result Stating Cause
-modifies_verdict name p n st =
-    verdict (p.b == 0) n st
-    (λ b. accepting (modifies_rule name p (no_clause_left n st p) b) (stating Modifies name b))
+abbrev pub declaration_verdict : DeclarationKind → ℕ → Sheet → Counts → Stored → Result ℕ Cause
+declaration_verdict kind name p n st = verdict (sizes_suit kind p) n st (λ b. declaration_ruled kind name p (no_declaration_left n st p) b)
+
+-- No clause's page has a second size.
+abbrev pub clause_verdict : ClauseKind → ℕ → Sheet → Counts → Stored → Result Stating Cause
+clause_verdict kind name p n st = verdict (p.b == 0) n st (λ b. clause_ruled kind name p (no_clause_left n st p) b)
+
+abbrev pub declared_as : Kind → ℕ → Counts → Stored → Sheet → Ended
+declared_as (Declaration kind) name n st p = declaration_ended kind (name_for kind name) p n st (declaration_verdict kind name p n st)
+declared_as (Clause kind) name n st p = clause_ended kind p n st (clause_verdict kind name p n st)
 
 -- By the kind's number.
 abbrev pub declared_page : ℕ → ℕ → Counts → Stored → Sheet → Ended
-declared_page kind name n st p =
-    cond (kind == 3) (declaration_ended Constants 0 p n st (values_verdict Constants name p n st))
-    (cond (kind == 4) (declaration_ended Globals 0 p n st (values_verdict Globals name p n st))
-    (cond (kind == 6) (declaration_ended Procedure name p n st (procedure_verdict name p n st))
-    (cond (kind == 7) (clause_ended Axiom p n st (axiom_verdict name p n st))
-    (cond (kind == 8) (clause_ended Requires p n st (condition_verdict Requires name p n st))
-    (cond (kind == 9) (clause_ended Ensures p n st (condition_verdict Ensures name p n st))
-    (cond (kind == 10) (clause_ended Modifies p n st (modifies_verdict name p n st))
-    (refused (Call Form) n st)))))))
+declared_page kind name n st p = elim (kind_of kind) [ Ok k ↦ declared_as k name n st p | Err cause ↦ refused cause n st ]
 
 -- Declare.
 abbrev pub declared : ℕ → ℕ → List ℕ → Counts → Stored → Ended

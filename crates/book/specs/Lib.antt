@@ -1,3 +1,3 @@
-pub mod Conditions
+pub mod Kinds
 pub mod Declare
 pub mod Rules

@@ -1,10 +1,12 @@
 ghost use Rattle.std.specs.Prelude.{◌≡◌, ◌+◌, ◌≤◌, length};
 ghost use Rattle.book.specs.Declare.{ClauseRoom, DeclarationRoom, clause_added, declaration_added, written};
-ghost use Rattle.page.specs.Pages.{Whole, entries_of, paired, shown};
+ghost use Rattle.page.specs.Pages.{entries_of, paired, shown};
 ghost use Rattle.records.specs.Held.{Same, stored};
 
+use crate::rules::Request;
+use crate::states::Open;
 use page::{Entry, Page};
-use records::lists::{Clause, ClauseKind, Counts, Declaration, DeclarationKind, Lists};
+use records::lists::{Clause, ClauseKind, Declaration, DeclarationKind, Lists};
 
 /// Copies left and right numbers, entry by entry.
 fn copy_entries(into: &mut [Entry], left: &[u32], right: &[u32])
@@ -21,7 +23,7 @@ fn copy_entries(into: &mut [Entry], left: &[u32], right: &[u32])
 
 /// Writes a page's entries from a place on.
 fn write_page(entries: &mut [Entry], start: usize, page: Page)
-    requires { (Whole page) × (start + (page.a + page.b) ≤ length entries.old) }
+    requires { start + (page.a + page.b) ≤ length entries.old }
     ensures { entries.new ≡ written entries.old start (entries_of (shown page.entry)) }
 {
     let end = start + page.left.numbers.len();
@@ -32,47 +34,55 @@ fn write_page(entries: &mut [Entry], start: usize, page: Page)
     );
 }
 
-/// Adds a declaration record and its entries.
-pub(crate) fn add_declaration(
-    lists: &mut Lists,
-    counts: Counts,
-    kind: DeclarationKind,
-    name: u32,
-    page: Page,
-)
-    requires { (Whole page) × (DeclarationRoom counts (stored lists.old) (shown page)) }
-    ensures does { stored lists.new ≡ (declaration_added kind name (shown page.entry) 0 counts (stored lists.old)).lists }
-    ensures lent { Same lists.old lists.new }
-{
-    let at = counts.declarations;
-    lists.declarations[at] = Declaration {
-        kind,
-        name,
-        start: counts.entries,
-        a: page.a,
-        b: page.b,
-    };
-    write_page(lists.entries, counts.entries as usize, page);
-}
+impl Open {
+    /// Adds a declaration record and its entries.
+    pub(crate) fn add_declaration(
+        &mut self,
+        lists: &mut Lists,
+        kind: DeclarationKind,
+        request: Request,
+    )
+        requires { DeclarationRoom self.old.counts (stored lists.old) (shown request.page) }
+        ensures counts { self.new.counts ≡ (declaration_added kind request.entry.name (shown request.entry.page) 0 self.old.counts (stored lists.old)).counts }
+        ensures lists { stored lists.new ≡ (declaration_added kind request.entry.name (shown request.entry.page) 0 self.old.counts (stored lists.old)).lists }
+        ensures lent { Same lists.old lists.new }
+    {
+        let Request { name, page } = request;
+        let at = self.counts.declarations;
+        lists.declarations[at] = Declaration {
+            kind,
+            name,
+            start: self.counts.entries,
+            a: page.a,
+            b: page.b,
+        };
+        write_page(lists.entries, self.counts.entries as usize, page);
+        self.counts.declarations += 1;
+        self.counts.entries += page.a + page.b;
+    }
 
-/// Adds a clause record and its entries.
-pub(crate) fn add_clause(
-    lists: &mut Lists,
-    counts: Counts,
-    kind: ClauseKind,
-    procedure: u32,
-    page: Page,
-)
-    requires { (Whole page) × (ClauseRoom counts (stored lists.old) (shown page)) }
-    ensures does { stored lists.new ≡ (clause_added kind procedure (shown page.entry) 0 counts (stored lists.old)).lists }
-    ensures lent { Same lists.old lists.new }
-{
-    let at = counts.clauses;
-    lists.clauses[at] = Clause {
-        kind,
-        procedure,
-        start: counts.entries,
-        count: page.a + page.b,
-    };
-    write_page(lists.entries, counts.entries as usize, page);
+    /// Adds a clause record and its entries.
+    pub(crate) fn add_clause(
+        &mut self,
+        lists: &mut Lists,
+        kind: ClauseKind,
+        procedure: u32,
+        page: Page,
+    )
+        requires { ClauseRoom self.old.counts (stored lists.old) (shown page) }
+        ensures counts { self.new.counts ≡ (clause_added kind procedure (shown page.entry) 0 self.old.counts (stored lists.old)).counts }
+        ensures lists { stored lists.new ≡ (clause_added kind procedure (shown page.entry) 0 self.old.counts (stored lists.old)).lists }
+        ensures lent { Same lists.old lists.new }
+    {
+        let at = self.counts.clauses;
+        lists.clauses[at] = Clause {
+            kind,
+            procedure,
+            start: self.counts.entries,
+            count: page.a + page.b,
+        };
+        write_page(lists.entries, self.counts.entries as usize, page);
+        self.counts.clauses += 1;
+        self.counts.entries += page.a + page.b;
+    }
 }

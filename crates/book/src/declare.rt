@@ -1,135 +1,30 @@
-ghost use Rattle.book.specs.Declare.{ClauseRoom, DeclarationRoom, Ended, axiom_verdict, clause_ended, condition_verdict, declaration_ended, declared, modifies_verdict, new_book, no_clause_left, no_declaration_left, overfull, procedure_verdict, settled, values_verdict};
-ghost use Rattle.book.specs.Conditions.{IsCondition};
-ghost use Rattle.page.specs.Pages.{Whole, shown};
+ghost use Rattle.book.specs.Declare.{ClauseRoom, DeclarationRoom, Ended, book_for, clause_verdict, declaration_verdict, declared, declared_as, name_for, new_book, no_clause_left, no_declaration_left, overfull, settled, sizes_suit};
+ghost use Rattle.book.specs.declared.kinds.Kind.TheVariants.{Clause, Declaration};
+ghost use Rattle.page.specs.Pages.{shown};
 ghost use Rattle.records.specs.Held.{Same, stored};
-ghost use Rattle.records.specs.declared.lists.ClauseKind.TheVariants.{Axiom, Modifies};
-ghost use Rattle.records.specs.declared.lists.DeclarationKind.TheVariants.{Procedure};
+ghost use Rattle.records.specs.Sound.{shown as held_by};
 ghost use Rattle.std.specs.Prelude.{◌≡◌, OnOk};
+ghost use Rattle.std.specs.Result.{result_map_both};
 
-use crate::add::{add_clause, add_declaration};
-use crate::clauses::{Stating, check_axiom, check_condition, check_modifies};
-use crate::rules::{check_procedure, check_values};
+use crate::clauses::Stating;
+use crate::kinds::Kind;
+use crate::rules::{Declaring, Request};
 use crate::states::{Open, Settled};
+use fault::refuse::refuse_call;
 use fault::{Cause, Fault, Ground};
 use page::Page;
 use records::guard::held;
 use records::lists::{ClauseKind, Counts, DeclarationKind, Lists};
+use records::sound::SoundBook;
 
-/// Do the page's entries not fit into the book, or not into the list?
-fn is_overfull(lists: &Lists, counts: Counts, page: Page) -> bool
-    requires { Whole page }
-    ensures { result ≡ overfull counts (stored lists.now) (shown page.entry) }
+/// Do the page's sizes suit such a declaration?
+fn sizes_suit(kind: DeclarationKind, page: Page) -> bool
+    ensures { result ≡ sizes_suit kind (shown page.entry) }
 {
-    let end = counts.entries as usize + (page.a as usize + page.b as usize);
-    end > 65536 || end > lists.entries.len()
-}
-
-/// Is no declaration record left, or no room for the page's entries?
-fn lacks_declaration(lists: &Lists, counts: Counts, page: Page) -> bool
-    requires { Whole page }
-    ensures { result ≡ no_declaration_left counts (stored lists.now) (shown page.entry) }
-{
-    lists.declarations.len() <= counts.declarations || is_overfull(lists, counts, page)
-}
-
-/// Is no clause record left, or no room for the page's entries?
-fn lacks_clause(lists: &Lists, counts: Counts, page: Page) -> bool
-    requires { Whole page }
-    ensures { result ≡ no_clause_left counts (stored lists.now) (shown page.entry) }
-{
-    lists.clauses.len() <= counts.clauses || is_overfull(lists, counts, page)
-}
-
-/// Judges constants or globals.
-fn judge_values(
-    lists: &Lists,
-    counts: Counts,
-    kind: DeclarationKind,
-    name: u32,
-    page: Page,
-) -> Result<usize, Cause>
-    requires { Whole page }
-    ensures is { result ≡ values_verdict kind name (shown page.entry) counts (stored lists.now) }
-    ensures room { OnOk result (DeclarationRoom counts (stored lists.now) (shown page.entry)) }
-{
-    if page.a == 0 || page.b != 0 {
-        return Err(Cause::Call(Ground::Form));
+    match kind {
+        DeclarationKind::Constants | DeclarationKind::Globals => page.a > 0 && page.b == 0,
+        DeclarationKind::Procedure => page.a <= 16 && page.b <= 16,
     }
-    let Some(book) = held(lists, counts) else {
-        return Err(Cause::Call(Ground::Lists));
-    };
-    let full = lacks_declaration(lists, counts, page);
-    check_values(&book, full, kind, name, page)
-}
-
-/// Judges a procedure.
-fn judge_procedure(lists: &Lists, counts: Counts, name: u32, page: Page) -> Result<usize, Cause>
-    requires { Whole page }
-    ensures is { result ≡ procedure_verdict name (shown page.entry) counts (stored lists.now) }
-    ensures room { OnOk result (DeclarationRoom counts (stored lists.now) (shown page.entry)) }
-{
-    if page.a > 16 || page.b > 16 {
-        return Err(Cause::Call(Ground::Form));
-    }
-    let Some(book) = held(lists, counts) else {
-        return Err(Cause::Call(Ground::Lists));
-    };
-    let full = lacks_declaration(lists, counts, page);
-    check_procedure(&book, full, name, page)
-}
-
-/// Judges an axiom.
-fn judge_axiom(lists: &Lists, counts: Counts, name: u32, page: Page) -> Result<Stating, Cause>
-    requires { Whole page }
-    ensures is { result ≡ axiom_verdict name (shown page.entry) counts (stored lists.now) }
-    ensures room { OnOk result (ClauseRoom counts (stored lists.now) (shown page.entry)) }
-{
-    if page.b != 0 {
-        return Err(Cause::Call(Ground::Form));
-    }
-    let Some(book) = held(lists, counts) else {
-        return Err(Cause::Call(Ground::Lists));
-    };
-    let full = lacks_clause(lists, counts, page);
-    check_axiom(&book, full, name, page)
-}
-
-/// Judges a requires or an ensures clause.
-fn judge_condition(
-    lists: &Lists,
-    counts: Counts,
-    kind: ClauseKind,
-    name: u32,
-    page: Page,
-) -> Result<Stating, Cause>
-    requires { (IsCondition kind) × (Whole page) }
-    ensures is { result ≡ condition_verdict kind name (shown page.entry) counts (stored lists.now) }
-    ensures room { OnOk result (ClauseRoom counts (stored lists.now) (shown page.entry)) }
-{
-    if page.b != 0 {
-        return Err(Cause::Call(Ground::Form));
-    }
-    let Some(book) = held(lists, counts) else {
-        return Err(Cause::Call(Ground::Lists));
-    };
-    let full = lacks_clause(lists, counts, page);
-    check_condition(&book, full, kind, name, page)
-}
-
-/// Judges a modifies clause.
-fn judge_modifies(lists: &Lists, counts: Counts, name: u32, page: Page) -> Result<Stating, Cause>
-    requires { Whole page }
-    ensures is { result ≡ modifies_verdict name (shown page.entry) counts (stored lists.now) }
-    ensures room { OnOk result (ClauseRoom counts (stored lists.now) (shown page.entry)) }
-{
-    if page.b != 0 {
-        return Err(Cause::Call(Ground::Form));
-    }
-    let Some(book) = held(lists, counts) else {
-        return Err(Cause::Call(Ground::Lists));
-    };
-    let full = lacks_clause(lists, counts, page);
-    check_modifies(&book, full, name, page)
 }
 
 impl Open {
@@ -146,118 +41,101 @@ impl Open {
         }
     }
 
-    /// Takes a declaration that was judged.
-    fn take_declaration(
+    /// Do the page's entries not fit into the book, or not into the list?
+    fn is_overfull(&self, lists: &Lists, page: Page) -> bool
+        ensures { result ≡ overfull self.now.counts (stored lists.now) (shown page.entry) }
+    {
+        let end = self.counts.entries as usize + page.left.numbers.len();
+        end > 65536 || end > lists.entries.len()
+    }
+
+    /// Is no declaration record left, or no room for the page's entries?
+    fn lacks_declaration(&self, lists: &Lists, page: Page) -> bool
+        ensures { result ≡ no_declaration_left self.now.counts (stored lists.now) (shown page.entry) }
+    {
+        lists.declarations.len() <= self.counts.declarations || self.is_overfull(lists, page)
+    }
+
+    /// Is no clause record left, or no room for the page's entries?
+    fn lacks_clause(&self, lists: &Lists, page: Page) -> bool
+        ensures { result ≡ no_clause_left self.now.counts (stored lists.now) (shown page.entry) }
+    {
+        lists.clauses.len() <= self.counts.clauses || self.is_overfull(lists, page)
+    }
+
+    /// The book that the lists hold, where the page's sizes suit the call.
+    fn sound_book<'a>(&self, lists: &'a Lists, suits: bool) -> Result<SoundBook<'a>, Cause>
+        ensures { result_map_both held_by (λ c. c) result ≡ book_for suits self.now.counts (stored lists.now) }
+    {
+        refuse_call(!suits, Ground::Form)?;
+        held(lists, self.counts).ok_or(Cause::Call(Ground::Lists))
+    }
+
+    /// Judges constants, globals or a procedure.
+    fn judge_declaration(
+        &self,
+        lists: &Lists,
+        kind: DeclarationKind,
+        request: Request,
+    ) -> Result<usize, Cause>
+        ensures is { result ≡ declaration_verdict kind request.entry.name (shown request.entry.page) self.now.counts (stored lists.now) }
+        ensures named { OnOk result (name_for kind request.entry.name ≡ request.entry.name) }
+        ensures room { OnOk result (DeclarationRoom self.now.counts (stored lists.now) (shown request.entry.page)) }
+    {
+        let declaring = Declaring {
+            book: self.sound_book(lists, sizes_suit(kind, request.page))?,
+            full: self.lacks_declaration(lists, request.page),
+            request,
+        };
+        declaring.declaration(kind)
+    }
+
+    /// Judges a clause.
+    fn judge_clause(
+        &self,
+        lists: &Lists,
+        kind: ClauseKind,
+        request: Request,
+    ) -> Result<Stating, Cause>
+        ensures is { result ≡ clause_verdict kind request.entry.name (shown request.entry.page) self.now.counts (stored lists.now) }
+        ensures room { OnOk result (ClauseRoom self.now.counts (stored lists.now) (shown request.entry.page)) }
+    {
+        let declaring = Declaring {
+            book: self.sound_book(lists, request.page.b == 0)?,
+            full: self.lacks_clause(lists, request.page),
+            request,
+        };
+        declaring.clause(kind)
+    }
+
+    /// Constants, globals or a procedure.
+    fn declare_names(
         &mut self,
         lists: &mut Lists,
         kind: DeclarationKind,
-        name: u32,
-        page: Page,
-        verdict: Result<usize, Cause>,
+        request: Request,
     ) -> Result<usize, Fault>
-        requires { (Whole page) × (OnOk verdict (DeclarationRoom self.old.counts (stored lists.old) (shown page))) }
-        ensures does { record { answer = result; counts = self.new.counts; lists = stored lists.new } ≡ declaration_ended kind name (shown page.entry) self.old.counts (stored lists.old) verdict }
+        ensures does { record { answer = result; counts = self.new.counts; lists = stored lists.new } ≡ declared_as (Declaration kind) request.entry.name self.old.counts (stored lists.old) (shown request.entry.page) }
         ensures lent { Same lists.old lists.new }
     {
-        match verdict {
-            Ok(number) => {
-                add_declaration(lists, self.counts, kind, name, page);
-                self.counts.declarations += 1;
-                self.counts.entries += page.a + page.b;
-                Ok(number)
-            }
-            Err(cause) => Err(Fault { block: 0, cause }),
-        }
+        let number = self.judge_declaration(lists, kind, request)?;
+        self.add_declaration(lists, kind, request);
+        Ok(number)
     }
 
-    /// Takes a clause that was judged.
-    fn take_clause(
+    /// A clause.
+    fn declare_clause(
         &mut self,
         lists: &mut Lists,
         kind: ClauseKind,
-        page: Page,
-        verdict: Result<Stating, Cause>,
+        request: Request,
     ) -> Result<usize, Fault>
-        requires { (Whole page) × (OnOk verdict (ClauseRoom self.old.counts (stored lists.old) (shown page))) }
-        ensures does { record { answer = result; counts = self.new.counts; lists = stored lists.new } ≡ clause_ended kind (shown page.entry) self.old.counts (stored lists.old) verdict }
+        ensures does { record { answer = result; counts = self.new.counts; lists = stored lists.new } ≡ declared_as (Clause kind) request.entry.name self.old.counts (stored lists.old) (shown request.entry.page) }
         ensures lent { Same lists.old lists.new }
     {
-        match verdict {
-            Ok(stating) => {
-                add_clause(lists, self.counts, kind, stating.procedure, page);
-                self.counts.clauses += 1;
-                self.counts.entries += page.a + page.b;
-                Ok(stating.number)
-            }
-            Err(cause) => Err(Fault { block: 0, cause }),
-        }
-    }
-
-    /// Constants or globals.
-    fn declare_values(
-        &mut self,
-        lists: &mut Lists,
-        kind: DeclarationKind,
-        name: u32,
-        page: Page,
-    ) -> Result<usize, Fault>
-        requires { Whole page }
-        ensures does { record { answer = result; counts = self.new.counts; lists = stored lists.new } ≡ declaration_ended kind 0 (shown page.entry) self.old.counts (stored lists.old) (values_verdict kind name (shown page.entry) self.old.counts (stored lists.old)) }
-        ensures lent { Same lists.old lists.new }
-    {
-        let verdict = judge_values(lists, self.counts, kind, name, page);
-        self.take_declaration(lists, kind, 0, page, verdict)
-    }
-
-    /// A procedure.
-    fn declare_procedure(
-        &mut self,
-        lists: &mut Lists,
-        name: u32,
-        page: Page,
-    ) -> Result<usize, Fault>
-        requires { Whole page }
-        ensures does { record { answer = result; counts = self.new.counts; lists = stored lists.new } ≡ declaration_ended Procedure name (shown page.entry) self.old.counts (stored lists.old) (procedure_verdict name (shown page.entry) self.old.counts (stored lists.old)) }
-        ensures lent { Same lists.old lists.new }
-    {
-        let verdict = judge_procedure(lists, self.counts, name, page);
-        self.take_declaration(lists, DeclarationKind::Procedure, name, page, verdict)
-    }
-
-    /// An axiom.
-    fn declare_axiom(&mut self, lists: &mut Lists, name: u32, page: Page) -> Result<usize, Fault>
-        requires { Whole page }
-        ensures does { record { answer = result; counts = self.new.counts; lists = stored lists.new } ≡ clause_ended Axiom (shown page.entry) self.old.counts (stored lists.old) (axiom_verdict name (shown page.entry) self.old.counts (stored lists.old)) }
-        ensures lent { Same lists.old lists.new }
-    {
-        let verdict = judge_axiom(lists, self.counts, name, page);
-        self.take_clause(lists, ClauseKind::Axiom, page, verdict)
-    }
-
-    /// A requires or an ensures clause.
-    fn declare_condition(
-        &mut self,
-        lists: &mut Lists,
-        kind: ClauseKind,
-        name: u32,
-        page: Page,
-    ) -> Result<usize, Fault>
-        requires { (IsCondition kind) × (Whole page) }
-        ensures does { record { answer = result; counts = self.new.counts; lists = stored lists.new } ≡ clause_ended kind (shown page.entry) self.old.counts (stored lists.old) (condition_verdict kind name (shown page.entry) self.old.counts (stored lists.old)) }
-        ensures lent { Same lists.old lists.new }
-    {
-        let verdict = judge_condition(lists, self.counts, kind, name, page);
-        self.take_clause(lists, kind, page, verdict)
-    }
-
-    /// A modifies clause.
-    fn declare_modifies(&mut self, lists: &mut Lists, name: u32, page: Page) -> Result<usize, Fault>
-        requires { Whole page }
-        ensures does { record { answer = result; counts = self.new.counts; lists = stored lists.new } ≡ clause_ended Modifies (shown page.entry) self.old.counts (stored lists.old) (modifies_verdict name (shown page.entry) self.old.counts (stored lists.old)) }
-        ensures lent { Same lists.old lists.new }
-    {
-        let verdict = judge_modifies(lists, self.counts, name, page);
-        self.take_clause(lists, ClauseKind::Modifies, page, verdict)
+        let Stating { procedure, number } = self.judge_clause(lists, kind, request)?;
+        self.add_clause(lists, kind, procedure, request.page);
+        Ok(number)
     }
 
     /// Declares what the kind, the name and the page say, or refuses it and leaves all as it was.
@@ -274,24 +152,11 @@ impl Open {
         ensures does { record { answer = result; counts = self.new.counts; lists = stored lists.new } ≡ declared kind name numbers.now self.old.counts (stored lists.old) }
         ensures lent { Same lists.old lists.new }
     {
-        let Some(page) = Page::read(numbers) else {
-            return Err(Fault {
-                block: 0,
-                cause: Cause::Call(Ground::Form),
-            });
-        };
-        match kind {
-            3 => self.declare_values(lists, DeclarationKind::Constants, name, page),
-            4 => self.declare_values(lists, DeclarationKind::Globals, name, page),
-            6 => self.declare_procedure(lists, name, page),
-            7 => self.declare_axiom(lists, name, page),
-            8 => self.declare_condition(lists, ClauseKind::Requires, name, page),
-            9 => self.declare_condition(lists, ClauseKind::Ensures, name, page),
-            10 => self.declare_modifies(lists, name, page),
-            _ => Err(Fault {
-                block: 0,
-                cause: Cause::Call(Ground::Form),
-            }),
+        let page = Page::read(numbers).ok_or(Cause::Call(Ground::Form))?;
+        let request = Request { name, page };
+        match Kind::try_from(kind)? {
+            Kind::Declaration(kind) => self.declare_names(lists, kind, request),
+            Kind::Clause(kind) => self.declare_clause(lists, kind, request),
         }
     }
 

@@ -4,6 +4,7 @@
 mod add;
 mod clauses;
 mod declare;
+mod kinds;
 mod rules;
 mod states;
 

@@ -1,14 +1,9 @@
 -- The line that a traced call prints, but for its end.
 use Rattle.std.specs.Prelude.{ℕ, List, ◌++◌, codes, decimal}
-use Rattle.fault.specs.declared.Report.{Report}
+use Rattle.fault.specs.Faults.{report_text}
 use Rattle.console.specs.declared.outcomes.Outcome.{Outcome}
 use Rattle.console.specs.declared.outcomes.Outcome.TheVariants.{Declared, Settled, Refused}
 use Rattle.lines.specs.Calls.{number_of}
-
--- The ground, the block, the entry and the item of a refusal.
-abbrev pub report_text : Report → List ℕ
-report_text r =
-    decimal r.number ++ (codes " " ++ (decimal r.block ++ (codes " " ++ (decimal r.entry ++ (codes " " ++ decimal r.item)))))
 
 abbrev pub outcome_text : Outcome → List ℕ
 outcome_text (Declared number) = codes "1 ok " ++ decimal number

@@ -1,6 +1,6 @@
 //! The text of a line, word by word, as numbers.
 use crate::errors::Failure;
-use lines::words::{line_error, parse_word};
+use lines::words::parse_word;
 
 /// Adds the numbers of a line. A line that begins with `#` has none. The line's number goes into an error.
 pub(crate) fn parse_numbers(
@@ -12,20 +12,14 @@ pub(crate) fn parse_numbers(
         return Ok(());
     }
     let text = text.strip_suffix('\r').unwrap_or(text);
-    let mut words: usize = 0;
-    for word in text.split([' ', '\t']) {
-        // Blanks that follow one another have nothing between them.
-        if word.is_empty() {
-            continue;
-        }
-        words = words.saturating_add(1);
-        match parse_word(word.as_bytes()) {
-            Ok(number) => numbers.push(number)?,
-            Err(error) => {
-                let error = line_error(error, words);
-                return Err(Failure::Line { line, error });
-            }
-        }
+    // Blanks that follow one another have nothing between them.
+    let words = text.split([' ', '\t']).filter(|word| !word.is_empty());
+    for (word, place) in words.zip(1..) {
+        let number = parse_word(word.as_bytes()).map_err(|error| Failure::Line {
+            line,
+            error: error.at(place),
+        })?;
+        numbers.push(number)?;
     }
     Ok(())
 }

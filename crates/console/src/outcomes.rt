@@ -7,7 +7,7 @@ use lines::calls::CallKind;
 use std::fmt;
 
 /// What a call came to.
-#[derive(Clone, Copy)]
+#[derive(Clone, Copy, Debug, PartialEq, Eq)]
 pub enum Outcome {
     /// Declare was accepted, and answers this number.
     Declared { number: usize },
@@ -25,12 +25,7 @@ impl fmt::Display for Outcome {
             Outcome::Declared { number } => write!(f, "1 ok {number}"),
             Outcome::Settled => write!(f, "2 ok"),
             Outcome::Refused { call, report } => {
-                let call = call.number();
-                let ground = report.number;
-                let block = report.block;
-                let entry = report.entry;
-                let item = report.item;
-                write!(f, "{call} refused {ground} {block} {entry} {item}")
+                write!(f, "{} refused {report}", u32::from(*call))
             }
         }
     }

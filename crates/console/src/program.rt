@@ -45,33 +45,28 @@ pub fn run(rt: HostRuntime) -> ExitCode {
 
 /// Does what the arguments ask for.
 fn answer_all(rt: &HostRuntime) -> Result<(), Failure> {
-    let arguments = match env::args(rt) {
-        Ok(arguments) => arguments,
-        Err(error) => return Err(Failure::Input(error)),
-    };
+    let arguments = env::args(rt).map_err(Failure::Input)?;
     let options = Options::parse(arguments)?;
     if options.help {
-        return written(rt.print(HELP));
+        return rt.print(HELP).map_err(Failure::Output);
     }
-    let text = input_text(rt, &options.file)?;
+    let text = input_text(rt, options.file.as_deref())?;
     let mut out = BufWriter::new(rt.alloc(), rt.stdout()).map_err(Failure::Output)?;
     let answered = answer_lines(rt.alloc(), text.as_str(), options.trace, &mut out);
     // What was answered before an error stands.
-    written(out.flush())?;
+    out.flush().map_err(Failure::Output)?;
     answered
 }
 
 /// The whole input as text. Bytes that are no text are replaced: in a comment they do no harm, and elsewhere
 /// the line gets its error.
-fn input_text(rt: &HostRuntime, file: &Option<String>) -> Result<String, Failure> {
+fn input_text(rt: &HostRuntime, file: Option<&str>) -> Result<String, Failure> {
     let read = match file {
-        Some(path) => fs::read(rt, path.as_str()),
+        Some(path) => fs::read(rt, path),
         None => standard_input(rt),
     };
-    match read {
-        Ok(bytes) => Ok(String::from_utf8_lossy(rt.alloc(), bytes.as_slice())?),
-        Err(error) => Err(Failure::Input(error)),
-    }
+    let bytes = read.map_err(Failure::Input)?;
+    Ok(String::from_utf8_lossy(rt.alloc(), bytes.as_slice())?)
 }
 
 /// All bytes of standard input.
@@ -79,12 +74,4 @@ fn standard_input(rt: &HostRuntime) -> io::Result<Vec<u8>> {
     let mut bytes = Vec::new(rt.alloc());
     rt.stdin().read_to_end(&mut bytes)?;
     Ok(bytes)
-}
-
-/// That a write was done, as an answer of the program.
-fn written(res: io::Result<()>) -> Result<(), Failure> {
-    match res {
-        Ok(()) => Ok(()),
-        Err(error) => Err(Failure::Output(error)),
-    }
 }

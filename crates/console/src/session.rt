@@ -8,6 +8,7 @@ use crate::errors::Failure;
 use crate::numbers::parse_numbers;
 use crate::outcomes::Outcome;
 use book::{Open, Settled};
+use fault::Report;
 use lines::calls::{Call, CallKind, parse_call};
 use lines::errors::LineError;
 use page::Entry;
@@ -21,7 +22,8 @@ const MOST_DECLARATIONS: usize = 384;
 /// The most page entries that a book keeps.
 const MOST_ENTRIES: usize = 65_536;
 
-// The records before their first use: the library reads none that it has not written.
+// The records before their first use: the library reads none that it has not written. They have no default,
+// since a record of zeros says nothing.
 const BLANK_DECLARATION: Declaration = Declaration {
     kind: DeclarationKind::Constants,
     name: 0,
@@ -64,44 +66,28 @@ pub(crate) fn answer_lines<W: Write>(
     };
     let mut stage = Stage::Open(Open::new());
     let mut numbers = Vec::new(heap);
-    for (index, line) in text.lines().enumerate() {
-        let number = index.saturating_add(1);
+    for (words, line) in text.lines().zip(1..) {
         numbers.clear();
-        parse_numbers(number, line, &mut numbers)?;
+        parse_numbers(line, words, &mut numbers)?;
         if !numbers.is_empty() {
-            let (next, outcome) = answer_line(stage, &mut lists, number, numbers.as_slice())?;
+            let answer = answer_line(stage, &mut lists, numbers.as_slice());
+            let (next, outcome) = answer.map_err(|error| Failure::Line { line, error })?;
             stage = next;
             if trace {
-                write_outcome(out, outcome)?;
+                writeln!(out, "{outcome}").map_err(Failure::Output)?;
             }
         }
     }
     Ok(())
 }
 
-/// Writes the line of a call.
-fn write_outcome<W: Write>(out: &mut W, outcome: Outcome) -> Result<(), Failure> {
-    match writeln!(out, "{outcome}") {
-        Ok(()) => Ok(()),
-        Err(error) => Err(Failure::Output(error)),
-    }
-}
-
-/// Makes the call of a line, whose number goes into an error.
+/// Makes the call of a line.
 fn answer_line(
     stage: Stage,
     lists: &mut Lists,
-    line: usize,
     numbers: &[u32],
-) -> Result<(Stage, Outcome), Failure> {
-    let made = match parse_call(numbers) {
-        Ok(call) => make_call(stage, lists, call),
-        Err(error) => Err(error),
-    };
-    match made {
-        Ok(answer) => Ok(answer),
-        Err(error) => Err(Failure::Line { line, error }),
-    }
+) -> Result<(Stage, Outcome), LineError> {
+    make_call(stage, lists, parse_call(numbers)?)
 }
 
 /// Makes a call, and answers the book's next state and what the call came to.
@@ -135,7 +121,7 @@ fn declare(
         Ok(number) => Outcome::Declared { number },
         Err(fault) => Outcome::Refused {
             call,
-            report: fault.report(),
+            report: Report::from(fault),
         },
     };
     Ok((Stage::Open(open), outcome))

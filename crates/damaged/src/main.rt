@@ -4,7 +4,7 @@
 ghost use Rattle.std.specs.Prelude.{◌≤◌};
 
 use book::Open;
-use fault::Fault;
+use fault::{Fault, Report};
 use page::Entry;
 use records::lists::{Clause, ClauseKind, Declaration, DeclarationKind, Lists};
 use std::io;
@@ -25,80 +25,28 @@ const REQUIRES: Clause = Clause {
     count: 1,
 };
 
-/// How the lists are changed before the next call.
+/// How much of each list is lent.
 #[derive(Clone, Copy)]
-enum Damage {
-    Nothing,
-    ShortDeclarations,
-    ShortClauses,
-    ShortEntries,
-    EntriesOutside,
-    SizesPassWidth,
-    ManyParameters,
-    ManyConstants,
-    UnknownProcedure,
-    NineClauses,
-    LongClause,
-    OtherBook,
+struct Lengths {
+    declarations: usize,
+    clauses: usize,
+    entries: usize,
+    ghost within: { (declarations ≤ 8) × (clauses ≤ 16) × (entries ≤ 2048) },
 }
 
-impl Damage {
-    fn text(self) -> &'static str {
-        match self {
-            Damage::Nothing => "nothing changed",
-            Damage::ShortDeclarations => "a declaration list that is too short",
-            Damage::ShortClauses => "a clause list that is too short",
-            Damage::ShortEntries => "an entry list that is too short",
-            Damage::EntriesOutside => "entries outside the table",
-            Damage::SizesPassWidth => "sizes whose sum passes 2^32",
-            Damage::ManyParameters => "17 in-parameters",
-            Damage::ManyConstants => "257 constants",
-            Damage::UnknownProcedure => "a clause of a procedure that is not there",
-            Damage::NineClauses => "nine requires clauses of one procedure",
-            Damage::LongClause => "a clause of 1,025 entries",
-            Damage::OtherBook => "constants that became globals",
-        }
-    }
+const WHOLE: Lengths = Lengths {
+    declarations: 8,
+    clauses: 16,
+    entries: 2048,
+};
 
-    /// Changes declaration records.
-    fn change_declarations(self, declarations: &mut [Declaration; 8]) {
-        match self {
-            Damage::EntriesOutside => declarations[0].start = 1036,
-            Damage::SizesPassWidth => {
-                declarations[0].a = 4_294_967_295;
-                declarations[0].b = 4_294_967_295;
-            }
-            Damage::ManyParameters => declarations[1].a = 17,
-            Damage::ManyConstants => declarations[0].a = 257,
-            Damage::OtherBook => declarations[0].kind = DeclarationKind::Globals,
-            _ => {}
-        }
-    }
-
-    /// Changes clause records.
-    fn change_clauses(self, clauses: &mut [Clause; 16]) {
-        match self {
-            Damage::UnknownProcedure => clauses[2].procedure = 1,
-            Damage::NineClauses => *clauses = [REQUIRES; 16],
-            Damage::LongClause => {
-                clauses[0].start = 0;
-                clauses[0].count = 1025;
-            }
-            _ => {}
-        }
-    }
-
-    /// How much of each list is lent: declarations, clauses and entries.
-    fn lengths(self) -> (usize, usize, usize)
-        ensures { (result.0 ≤ 8) × (result.1 ≤ 16) × (result.2 ≤ 2048) }
-    {
-        match self {
-            Damage::ShortDeclarations => (1, 16, 2048),
-            Damage::ShortClauses => (8, 8, 2048),
-            Damage::ShortEntries => (8, 16, 1037),
-            _ => (8, 16, 2048),
-        }
-    }
+/// The lists of a book, and how much of them the next call is lent.
+#[derive(Drop)]
+struct Held {
+    declarations: [Declaration; 8],
+    clauses: [Clause; 16],
+    entries: [Entry; 2048],
+    lent: Lengths,
 }
 
 /// A page of 1,024 entries: true, and 1,023 times not.
@@ -106,88 +54,125 @@ fn long_page() -> [u32; 2050] {
     let mut page = [0u32; 2050];
     page[0] = 1024;
     page[2] = 2;
-    for i in 3..1026 {
-        page[i] = 12;
-    }
+    page[3..1026].fill(12);
     page
 }
 
-/// Declares three constants, a procedure, two axioms and seven requires clauses: 1,038 entries. Says whether all were taken.
-fn declare_all(book: &mut Open, lists: &mut Lists) -> bool {
-    let mut all = book
-        .declare(lists, 3, 0, &[3, 0, 10, 11, 12, 1, 2, 3])
-        .is_ok();
-    all = book
-        .declare(lists, 6, 100, &[2, 1, 20, 21, 22, 1, 2, 2])
-        .is_ok()
-        && all;
-    all = book.declare(lists, 7, 0, &long_page()).is_ok() && all;
-    all = book.declare(lists, 7, 0, &[1, 0, 2, 0]).is_ok() && all;
+/// Declares three constants, a procedure, two axioms and seven requires clauses: 1,038 entries.
+fn declare_all(book: &mut Open, lists: &mut Lists) -> Result<(), Fault> {
+    book.declare(lists, 3, 0, &[3, 0, 10, 11, 12, 1, 2, 3])?;
+    book.declare(lists, 6, 100, &[2, 1, 20, 21, 22, 1, 2, 2])?;
+    book.declare(lists, 7, 0, &long_page())?;
+    book.declare(lists, 7, 0, &[1, 0, 2, 0])?;
     for _ in 0..7 {
-        all = book.declare(lists, 8, 100, &[1, 0, 2, 0]).is_ok() && all;
+        book.declare(lists, 8, 100, &[1, 0, 2, 0])?;
     }
-    all
+    Ok(())
 }
 
-/// One more constant, after the damage.
-fn declare_after(damage: Damage) -> Option<Result<usize, Fault>> {
-    let mut declarations = [CONSTANTS; 8];
-    let mut clauses = [REQUIRES; 16];
-    let mut entries = [Entry { left: 0, right: 0 }; 2048];
+/// One more constant, after the damage; nothing where the book itself was refused.
+fn declare_after<F: FnOnce(&mut Held)>(damage: F) -> Option<Result<usize, Fault>>
+    requires { F.IsAlwaysCallable damage }
+{
+    let mut held = Held {
+        declarations: [CONSTANTS; 8],
+        clauses: [REQUIRES; 16],
+        entries: [Entry { left: 0, right: 0 }; 2048],
+        lent: WHOLE,
+    };
     let mut book = Open::new();
     let mut lists = Lists {
-        declarations: &mut declarations,
-        clauses: &mut clauses,
-        entries: &mut entries,
+        declarations: &mut held.declarations,
+        clauses: &mut held.clauses,
+        entries: &mut held.entries,
     };
-    if !declare_all(&mut book, &mut lists) {
-        return None;
-    }
-    damage.change_declarations(&mut declarations);
-    damage.change_clauses(&mut clauses);
-    let (n, m, k) = damage.lengths();
-    let mut lent = Lists {
-        declarations: &mut declarations[0..n],
-        clauses: &mut clauses[0..m],
-        entries: &mut entries[0..k],
+    declare_all(&mut book, &mut lists).ok()?;
+    damage(&mut held);
+    let lengths = held.lent;
+    let mut lists = Lists {
+        declarations: &mut held.declarations[..lengths.declarations],
+        clauses: &mut held.clauses[..lengths.clauses],
+        entries: &mut held.entries[..lengths.entries],
     };
-    Some(book.declare(&mut lent, 3, 0, &[1, 0, 50, 2]))
+    Some(book.declare(&mut lists, 3, 0, &[1, 0, 50, 2]))
 }
 
 /// Prints what the call after the damage comes to.
-fn show(rt: &HostRuntime, damage: Damage) -> io::Result<()> {
-    let text = damage.text();
+fn show<F: FnOnce(&mut Held)>(rt: &HostRuntime, text: &str, damage: F) -> io::Result<()>
+    requires { F.IsAlwaysCallable damage }
+{
     match declare_after(damage) {
         None => println!(rt; "{text}: the book was not declared"),
         Some(Ok(number)) => println!(rt; "{text}: ok {number}"),
-        Some(Err(fault)) => {
-            let report = fault.report();
-            let number = report.number;
-            let block = report.block;
-            let entry = report.entry;
-            let item = report.item;
-            println!(rt; "{text}: refused {number} {block} {entry} {item}")
-        }
+        Some(Err(fault)) => println!(rt; "{text}: refused {}", Report::from(fault)),
     }
 }
 
+/// Lists that nobody changed, and lists that are lent too short.
+fn show_lengths(rt: &HostRuntime) -> io::Result<()> {
+    show(rt, "nothing changed", |_| {})?;
+    show(
+        rt,
+        "a declaration list that is too short",
+        |held| held.lent.declarations = 1,
+    )?;
+    show(
+        rt,
+        "a clause list that is too short",
+        |held| held.lent.clauses = 8,
+    )?;
+    show(
+        rt,
+        "an entry list that is too short",
+        |held| held.lent.entries = 1037,
+    )
+}
+
+/// Declaration records that were changed.
+fn show_declarations(rt: &HostRuntime) -> io::Result<()> {
+    show(
+        rt,
+        "entries outside the table",
+        |held| held.declarations[0].start = 1036,
+    )?;
+    show(rt, "sizes whose sum passes 2^32", |held| {
+        held.declarations[0].a = 4_294_967_295;
+        held.declarations[0].b = 4_294_967_295;
+    })?;
+    show(rt, "17 in-parameters", |held| held.declarations[1].a = 17)?;
+    show(rt, "257 constants", |held| held.declarations[0].a = 257)
+}
+
+/// Clause records that were changed.
+fn show_clauses(rt: &HostRuntime) -> io::Result<()> {
+    show(
+        rt,
+        "a clause of a procedure that is not there",
+        |held| held.clauses[2].procedure = 1,
+    )?;
+    show(
+        rt,
+        "nine requires clauses of one procedure",
+        |held| held.clauses = [REQUIRES; 16],
+    )?;
+    show(rt, "a clause of 1,025 entries", |held| {
+        held.clauses[0].start = 0;
+        held.clauses[0].count = 1025;
+    })
+}
+
+/// Lists that are another book's.
+fn show_other_book(rt: &HostRuntime) -> io::Result<()> {
+    show(
+        rt,
+        "constants that became globals",
+        |held| held.declarations[0].kind = DeclarationKind::Globals,
+    )
+}
+
 fn main(rt: HostRuntime) -> io::Result<()> {
-    let damages = [
-        Damage::Nothing,
-        Damage::ShortDeclarations,
-        Damage::ShortClauses,
-        Damage::ShortEntries,
-        Damage::EntriesOutside,
-        Damage::SizesPassWidth,
-        Damage::ManyParameters,
-        Damage::ManyConstants,
-        Damage::UnknownProcedure,
-        Damage::NineClauses,
-        Damage::LongClause,
-        Damage::OtherBook,
-    ];
-    for damage in damages {
-        show(&rt, damage)?;
-    }
-    Ok(())
+    show_lengths(&rt)?;
+    show_declarations(&rt)?;
+    show_clauses(&rt)?;
+    show_other_book(&rt)
 }

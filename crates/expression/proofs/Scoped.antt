@@ -1,15 +1,18 @@
--- Look-ups among globals that may be used.
-use Rattle.std.proofs.Common.{◌≡◌, ℕ, Bool, true, false, cond, List, [], ◌++◌, Some, None, Option}
-use Rattle.std.proofs.lemmas.Bool.{false≢true}
+-- Look-ups through joined lists.
+use Rattle.std.proofs.Common.{◌≡◌, ℕ, List, ◌++◌, Some, None, Option, ◌≢◌, refl}
 use Rattle.page.specs.declared.Entry.{Entry}
 use Rattle.language.specs.declared.ValueType.{ValueType}
 use Rattle.language.specs.Expressions.{type_of}
-use Rattle.records.proofs.Finds.{type_of_first, type_of_later}
+use Rattle.records.specs.Found.{or_else}
+use Rattle.records.proofs.Finds.{type_of-append}
 
-pub usable_first : (b : Bool) → b ≡ true → (name : ℕ) (gs cs : List Entry) (t : ValueType) → Some t ≡ type_of name gs → Some t ≡ type_of name (cond b gs [] ++ cs)
-usable_first true h name gs cs t e = type_of_first name gs cs t e
-usable_first false h name gs cs t e = absurd (false≢true h)
+-- What is not in the first list is looked up in the second.
+pub found_later : (name : ℕ) (xs ys : List Entry) → type_of name xs ≡ None → type_of name (xs ++ ys) ≡ type_of name ys
+found_later name xs ys e = rw (type_of-append name xs ys, e) refl
 
-pub usable_later : (b : Bool) → b ≡ true → (name : ℕ) (gs cs : List Entry) (r : Option ValueType) → None ≡ type_of name gs → r ≡ type_of name cs → r ≡ type_of name (cond b gs [] ++ cs)
-usable_later true h name gs cs r e f = type_of_later name gs cs r e f
-usable_later false h name gs cs r e f = absurd (false≢true h)
+pub found_first : (name : ℕ) (xs ys : List Entry) → type_of name xs ≢ None → type_of name (xs ++ ys) ≡ type_of name xs
+found_first name xs ys f = rw (type_of-append name xs ys) (either (type_of name xs) f)
+  where
+    either : (o : Option ValueType) → o ≢ None → or_else o (type_of name ys) ≡ o
+    either None n = absurd (n refl)
+    either (Some t) n = refl

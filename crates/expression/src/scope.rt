@@ -2,7 +2,7 @@ ghost use Rattle.expression.specs.Scopes.{scope_of, values_in};
 ghost use Rattle.language.specs.Expressions.{type_of};
 ghost use Rattle.records.specs.Book.{globals};
 ghost use Rattle.records.specs.Held.{book_of};
-ghost use Rattle.std.specs.Prelude.{◌≡◌};
+ghost use Rattle.std.specs.Prelude.{◌≡◌, cond, []};
 
 use language::ValueType;
 use page::Entry;
@@ -10,6 +10,7 @@ use records::find::find_type;
 use records::lists::{DeclarationKind, HeldBook};
 
 /// What names mean in a place: locals, then parameters, then globals where they may be used, then constants.
+// Each of the two bools may be set without the other: an enum in their place would have the same four cases.
 #[derive(Clone, Copy)]
 pub struct Scope<'a> {
     pub book: HeldBook<'a>,
@@ -23,29 +24,37 @@ pub struct Scope<'a> {
 
 impl Scope<'_> {
     /// The type of the global or the constant of that name.
+    // A match, since a proof learns nothing of what a closure over a record of slices returns.
+    #[tactic(auto, using(crate::proofs::Scoped::found_first, crate::proofs::Scoped::found_later))]
     fn find_value(&self, name: u32) -> Option<ValueType>
         ensures { result ≡ type_of name (values_in self.now) }
     {
-        if !self.globals {
-            return self.book.find_declared(DeclarationKind::Constants, name);
-        }
-        match self.find_old(name) {
-            Some(t) => Some(t),
+        match self.find_global(name) {
             None => self.book.find_declared(DeclarationKind::Constants, name),
+            found => found,
+        }
+    }
+
+    /// The type of the global of that name, where globals may be used.
+    fn find_global(&self, name: u32) -> Option<ValueType>
+        ensures { result ≡ type_of name (cond self.now.globals (globals (book_of self.now.book)) []) }
+    {
+        if self.globals {
+            self.find_old(name)
+        } else {
+            None
         }
     }
 
     /// The type of what an identifier means here.
+    #[tactic(auto, using(crate::proofs::Scoped::found_first, crate::proofs::Scoped::found_later))]
     pub fn find(&self, name: u32) -> Option<ValueType>
         ensures { result ≡ type_of name (scope_of self.now).names }
     {
-        if let Some(t) = find_type(self.locals, name) {
-            return Some(t);
+        match find_type(self.locals, name).or_else(|| find_type(self.parameters, name)) {
+            None => self.find_value(name),
+            found => found,
         }
-        if let Some(t) = find_type(self.parameters, name) {
-            return Some(t);
-        }
-        self.find_value(name)
     }
 
     /// The type of the global that `old` names.

@@ -3,11 +3,13 @@
 
 pub mod refuse;
 
-ghost use Rattle.fault.specs.Faults.{given, number_of};
-ghost use Rattle.std.specs.Prelude.{◌≡◌};
+ghost use Rattle.fault.specs.Faults.{given, number_of, report_text, without_block};
+ghost use Rattle.std.specs.Prelude.{◌≡◌, Some};
+
+use std::fmt;
 
 /// The ground of a refusal.
-#[derive(Clone, Copy)]
+#[derive(Clone, Copy, Debug, PartialEq, Eq)]
 pub enum Ground {
     /// The kind is unknown, the page has not the form of one, or its sizes do not suit the call.
     Form,
@@ -54,7 +56,7 @@ pub enum Ground {
 }
 
 /// Where in a page.
-#[derive(Clone, Copy)]
+#[derive(Clone, Copy, Debug, PartialEq, Eq)]
 pub enum Place {
     /// An entry: its index, and its left number.
     At { index: usize, item: u32 },
@@ -63,21 +65,21 @@ pub enum Place {
 }
 
 /// What was refused: the call as a whole, or an entry of its page.
-#[derive(Clone, Copy)]
+#[derive(Clone, Copy, Debug, PartialEq, Eq)]
 pub enum Cause {
     Call(Ground),
     Entry(Ground, Place),
 }
 
-/// A refusal: the block, counted from 1 (0 where there is none), and the cause.
-#[derive(Clone, Copy)]
+/// A refusal: the block, counted from 1, where there is one, and the cause.
+#[derive(Clone, Copy, Debug, PartialEq, Eq)]
 pub struct Fault {
-    pub block: u32,
+    pub block: Option<u32>,
     pub cause: Cause,
 }
 
-/// The four numbers of a refusal; those that are absent are 0.
-#[derive(Clone, Copy)]
+/// The four numbers of a refusal, plain as callers read them; those that are absent are 0.
+#[derive(Clone, Copy, Debug, PartialEq, Eq)]
 pub struct Report {
     pub number: u32,
     pub block: u32,
@@ -85,12 +87,12 @@ pub struct Report {
     pub item: u32,
 }
 
-impl Ground {
-    /// The number by which callers know the ground.
-    pub fn number(self) -> u32
-        ensures { result ≡ number_of self }
-    {
-        match self {
+/// The number by which callers know the ground.
+impl From<Ground> for u32 {
+    ghost from_gives = { λ g n. n ≡ number_of g };
+
+    fn from(ground: Ground) -> u32 {
+        match ground {
             Ground::Form => 1,
             Ground::Lists => 2,
             Ground::Naming => 3,
@@ -116,22 +118,46 @@ impl Ground {
     }
 }
 
-impl Fault {
-    /// What the refusal gives its caller.
-    pub fn report(self) -> Report
-        ensures { result ≡ given self }
-    {
-        let Fault { block, cause } = self;
+/// A check's refusal, where there is no block.
+impl From<Cause> for Fault {
+    ghost from_gives = { λ c f. f ≡ without_block c };
+
+    fn from(cause: Cause) -> Fault {
+        Fault { block: None, cause }
+    }
+}
+
+/// What a refusal gives its caller.
+impl From<Fault> for Report {
+    ghost from_gives = { λ f r. r ≡ given f };
+
+    fn from(fault: Fault) -> Report {
+        let Fault { block, cause } = fault;
         let (ground, entry, item) = match cause {
             Cause::Call(ground) => (ground, 0, 0),
             Cause::Entry(ground, Place::At { index, item }) => (ground, index, item),
             Cause::Entry(ground, Place::End { length }) => (ground, length, 0),
         };
         Report {
-            number: ground.number(),
-            block,
+            number: u32::from(ground),
+            block: block.unwrap_or(0),
             entry,
             item,
         }
+    }
+}
+
+/// The four numbers, with a blank between.
+impl fmt::Display for Report {
+    ghost output = { λ r. Some (report_text r) };
+
+    fn fmt<W: fmt::Write>(&self, f: &mut fmt::Formatter<W>) -> fmt::Result {
+        let Report {
+            number,
+            block,
+            entry,
+            item,
+        } = *self;
+        write!(f, "{number} {block} {entry} {item}")
     }
 }

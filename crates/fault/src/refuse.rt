@@ -17,14 +17,8 @@ pub fn refuse_call(test: bool, reason: Ground) -> Result<(), Cause>
 pub fn refuse_entry(reason: Ground, left: &[u32], index: usize) -> Result<(), Cause>
     ensures { refusal result ≡ on_entry reason left.now index }
 {
-    if index < left.len() {
-        return Err(Cause::Entry(
-            reason,
-            Place::At {
-                index,
-                item: left[index],
-            },
-        ));
+    match left.get(index) {
+        Some(&item) => Err(Cause::Entry(reason, Place::At { index, item })),
+        None => Ok(()),
     }
-    Ok(())
 }

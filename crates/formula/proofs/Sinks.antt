@@ -1,6 +1,6 @@
 -- The entries that a sink answers have the values of the tells, and a sink with room stops no telling.
-use Rattle.std.proofs.Common.{◌≡◌, ℕ, suc, ◌+◌, ◌<◌, ◌≤◌, Bool, true, false, eqb, List, [], ◌∷◌, ◌++◌, map, length, Some, sym, refl, ap, ◌∙◌, subst, arith, length-append}
-use lib.ListN.{length-map}
+use Rattle.std.proofs.Common.{◌≡◌, ℕ, suc, ◌+◌, ◌<◌, ◌≤◌, Bool, true, false, eqb, List, [], ◌∷◌, ◌++◌, map, length, Some, Ok, Err, sym, refl, ap, ◌∙◌, subst, arith, length-append}
+use Rattle.std.proofs.lemmas.List.{length-map}
 use Rattle.std.specs.List.{AllByRecursion}
 use Rattle.std.proofs.lemmas.Bool.{eqb-false, true≢false, false≢true}
 use Rattle.world.specs.Tells.{Binds, Tell, meant}
@@ -18,7 +18,7 @@ use Rattle.sink.specs.Causes.{Answer}
 use Rattle.sink.specs.Laws.{Refused, Told}
 use Rattle.sink.specs.Paths.{Follows, Kept, Stopped, entry_of, nothing, sent, then}
 use Rattle.sink.proofs.Apt.{apt_from}
-use Rattle.sink.proofs.Keeping.{follows_entries, follows_kept, follows_length, step_accepted, step_refused}
+use Rattle.sink.proofs.Keeping.{follows_entries, follows_kept, follows_length}
 use Rattle.formula.specs.InSinks.{Holds, Written}
 
 module _ {S V : Type 0} (watches : S → Reading V → Type 0) (entries : S → ℕ) (value : S → Reading V → ℕ → V) (takes : S → ℕ → Bool) (spare : S → ℕ) (steps : S → Tell → Answer → S → Type 0)
@@ -36,22 +36,22 @@ module _ {S V : Type 0} (watches : S → Reading V → Type 0) (entries : S → 
   answers_mean q s w (then {ts = ts} {s₁ = x} {s₂ = z} {answers = answers} {e = e} t d step) l i h = by (answers_mean q s w d l.1) (eqb i (length ts)) refl
     where
       la : length answers ≡ length ts
-      la = follows_length watches entries value takes spare steps lawful d
+      la = follows_length lawful d
 
       by : ((i : ℕ) → i < length ts → value x q (entry_of answers i) ≡ told_value q ts i) → (b : Bool) → eqb i (length ts) ≡ b
           → value z q (entry_of (e ∷ answers) i) ≡ told_value q (t ∷ ts) i
       by H true c =
-          let a = step_accepted watches entries value takes spare steps lawful x z (sent answers t) e step in
-          let wx = ((follows_kept watches entries value takes spare steps lawful d).watching q).0 w in
+          let a = lawful x (sent answers t) (Ok e) z step in
+          let wx = ((follows_kept lawful d).watching q).0 w in
           let m = values_of q ts x answers H t.operands l.0.earlier in
           let b = subst (λ (vs : List V). Binds q t.code vs) (sym m) l.0.binds in
           rw (la, c) (a.meaning q wx b ∙ ap (λ (vs : List V). meant q t.code t.argument vs) m)
       by H false c =
-          let a = step_accepted watches entries value takes spare steps lawful x z (sent answers t) e step in
-          let wx = ((follows_kept watches entries value takes spare steps lawful d).watching q).0 w in
+          let a = lawful x (sent answers t) (Ok e) z step in
+          let wx = ((follows_kept lawful d).watching q).0 w in
           let n = eqb-false i (length ts) c in
           let k : i < length ts = omega arith in
-          rw (la, c) (a.values q wx (entry_of answers i) (follows_entries watches entries value takes spare steps lawful d i k) ∙ H i k)
+          rw (la, c) (a.values q wx (entry_of answers i) (follows_entries lawful d i k) ∙ H i k)
 
   -- The entry of a formula has the formula's value in each watched reading that fits.
   entry_value : (r : Routine) → Sound r → (s s' : S) (e : ℕ) → Written steps r s s' e → (q : Reading V) → watches s q → HasConstants q.world r → Fits q r → value s' q e ≡ formula_value q r
@@ -89,7 +89,7 @@ module _ {S V : Type 0} (watches : S → Reading V → Type 0) (entries : S → 
   not_stopped r R s s' cause all room d = by cause (stopped_count r R s s' cause d)
     where
       kept : Kept watches entries value takes spare (length d.earlier) s d.before
-      kept = follows_kept watches entries value takes spare steps lawful d.tells
+      kept = follows_kept lawful d.tells
 
       L : LawfulTell some_reading d.earlier d.refused
       L = lawful_at some_reading d.later d.refused d.earlier (subst (λ (ts : List Tell). Lawful some_reading ts) d.all_told (all_lawful r R).0)
@@ -98,7 +98,7 @@ module _ {S V : Type 0} (watches : S → Reading V → Type 0) (entries : S → 
       by Operands few x =
           true≢false (sym (apt_from (entries d.before) (sent d.answers d.refused)
           (L.count ∙ ap Some (sym (length-map d.refused.operands (entry_of d.answers))))
-          (sent_below (entries d.before) d.earlier d.answers (follows_entries watches entries value takes spare steps lawful d.tells) d.refused.operands L.earlier)) ∙ x.1)
+          (sent_below (entries d.before) d.earlier d.answers (follows_entries lawful d.tells) d.refused.operands L.earlier)) ∙ x.1)
       by Code few x = false≢true (sym x.2 ∙ (kept.codes d.refused.code ∙ all d.refused.code))
       by Full few x = let f = kept.falls in let z = x.3 in omega arith
 
@@ -106,11 +106,11 @@ module _ {S V : Type 0} (watches : S → Reading V → Type 0) (entries : S → 
   pub holds : Holds watches entries value takes spare steps
   holds = record {
     written = λ r R s s' e W. record {
-      is_entry = subst (λ (n : ℕ). n < entries s') (sym W.entry_is) (follows_entries watches entries value takes spare steps lawful W.tells (told r).0 (all_lawful r R).1);
+      is_entry = subst (λ (n : ℕ). n < entries s') (sym W.entry_is) (follows_entries lawful W.tells (told r).0 (all_lawful r R).1);
       false_is_wrong = λ q w C F h. false_is_wrong V r R q C F (sym (entry_value r R s s' e W q w C F) ∙ h);
       wrong_is_false = λ q w F start d h. entry_value r R s s' e W q w d.constants_typed F ∙ wrong_is_false V r R q F start d h;
     };
     written_most = at_most_t;
     stopped_most = stopped_count;
-    never_stopped = λ r R s s' cause all room d. not_stopped r R s s' cause all room d (step_refused watches entries value takes spare steps lawful d.before s' (sent d.answers d.refused) cause d.stops);
+    never_stopped = λ r R s s' cause all room d. not_stopped r R s s' cause all room d (lawful d.before (sent d.answers d.refused) (Err cause) s' d.stops);
   }

@@ -1,9 +1,9 @@
 -- The check accepts exactly the pages that are the postfix form of right commands.
 use Rattle.std.proofs.Common.{◌≡◌, ℕ, ◌+◌, ◌≤◌, true, false, not, eqb, ltb, List, [], ◌∷◌, ◌++◌, map, reverse, length, take, is_ok, IfOk, Some, None, Ok, Err, Option, Result, sym, refl, ap, ◌∙◌, subst, ⊎_elim, arith}
-use mathlib.Core.List.{reverse_aux, reverse-cons}
 use Rattle.std.specs.List.{flat_map, AllByRecursion}
 use Rattle.std.proofs.ByRecursion.{All-push}
-use Rattle.std.proofs.lemmas.List.{append_assoc, append-nil, flat_map_more, length-append, length-reverse, map_push, reverse-reverse, take_all}
+use Rattle.std.proofs.lemmas.List.{append_assoc, append-nil, flat_map_more, length-append, length-reverse, map_push, reverse-append, reverse-reverse, take_all}
+use Rattle.std.proofs.lemmas.Slice.Zip.{all_zipped_more, AllZip-long}
 use Rattle.std.proofs.lemmas.Bool.{and_parts, cases_Bool, cond_both, eqb-true, false≢true, not-false}
 use Rattle.std.proofs.lemmas.Bool.Decides.{nat_tests}
 use Rattle.fault.specs.declared.Cause.{Cause}
@@ -59,18 +59,6 @@ other_member m n (x ∷ xs) ys i = let ih = other_member m n xs ys in grind (ari
 later_apart : (n : ℕ) (xs ys : List ℕ) → distinct (xs ++ (n ∷ ys)) ≡ true → member n xs ≡ false
 later_apart n [] ys i = refl
 later_apart n (x ∷ xs) ys i = let ih = later_apart n xs ys in let k = other_member x n xs ys in grind (arith, nat_tests)
-
-alike-push : {A B : Type 0} (R : A → B → Type 0) (xs : List A) (ys : List B) {x : A} {y : B} → Alike R xs ys → R x y → Alike R (xs ++ (x ∷ [])) (ys ++ (y ∷ []))
-alike-push R [] [] a r = (r, tt)
-alike-push R [] (z ∷ ys) a r = absurd a
-alike-push R (z ∷ xs) [] a r = absurd a
-alike-push R (z ∷ xs) (w ∷ ys) a r = (a.0, alike-push R xs ys a.1 r)
-
-alike-length : {A B : Type 0} (R : A → B → Type 0) (xs : List A) (ys : List B) → Alike R xs ys → length xs ≡ length ys
-alike-length R [] [] a = refl
-alike-length R [] (z ∷ ys) a = absurd a
-alike-length R (z ∷ xs) [] a = absurd a
-alike-length R (z ∷ xs) (w ∷ ys) a = let n = alike-length R xs ys a.1 in cc
 
 -- What is accepted is a page of right commands.
 module _ (b : BodyScope) where
@@ -168,11 +156,11 @@ module _ (b : BodyScope) where
 
   in_order : {ws : List ValueType} {es : List Entry} → Spelled (scope_in b) ws es → Ordered ws es
   in_order none = record { expressions = []; typed = tt; spell = refl }
-  in_order (more {ws = ws} {x = x} s d) =
+  in_order (more {ws = ws} {x = x} {t = t} s d) =
       let before = in_order s in
       record {
         expressions = before.expressions ++ (x ∷ []);
-        typed = rw reverse-cons (alike-push (λ e t. Typed (scope_in b) e t) before.expressions (reverse ws) before.typed d);
+        typed = rw (reverse-append (t ∷ []) ws) (all_zipped_more (λ e t. Typed (scope_in b) e t) before.expressions (reverse ws) x t before.typed d);
         spell = ap (λ l. l ++ postfix x) before.spell ∙ flat_map_more postfix [] before.expressions x;
       }
 
@@ -300,14 +288,15 @@ module _ (b : BodyScope) where
   value_takes ws d h l = leads_taken (simp append-nil at (leads-postfix (scope_in b) {ws = ws} d h stay)) l
 
   arguments_take : (xs : List Expression) (ts ws : List ValueType) {rest : List Entry} {u : Waits} → Alike (λ e t. Typed (scope_in b) e t) xs ts
-      → length ws + length (flat_map postfix xs) ≤ 1024 → Takes rest (only (reverse_aux ts ws)) u → Takes (flat_map postfix xs ++ rest) (only ws) u
+      → length ws + length (flat_map postfix xs) ≤ 1024 → Takes rest (only (reverse ts ++ ws)) u → Takes (flat_map postfix xs ++ rest) (only ws) u
   arguments_take [] [] ws a h l = l
   arguments_take [] (t ∷ ts) ws a h l = absurd a
   arguments_take (x ∷ xs) [] ws a h l = absurd a
   arguments_take (x ∷ xs) (t ∷ ts) ws a h l =
       let n = length-append (postfix x) (flat_map postfix xs) in
       let m = some_entry x in
-      rw append_assoc (value_takes ws a.0 (omega arith) (arguments_take xs ts (t ∷ ws) a.1 (omega arith) l))
+      let last : reverse (t ∷ ts) ++ ws ≡ reverse ts ++ (t ∷ ws) = rw (reverse-append (t ∷ []) ts, append_assoc) refl in
+      rw append_assoc (value_takes ws a.0 (omega arith) (arguments_take xs ts (t ∷ ws) a.1 (omega arith) (rw last at l)))
 
   receivers-take : (new : List ℕ) (outs : List ValueType) (ts : List ValueType) (rs : List ℕ) {rest : List Entry} {u : Waits} → Alike (λ n t. standing b n ≡ changeable t) new outs
       → distinct (rs ++ new) ≡ true → Takes rest (record { types = ts; receivers = rs ++ new }) u → Takes (map (entry 47) new ++ rest) (record { types = ts; receivers = rs }) u
@@ -329,7 +318,7 @@ module _ (b : BodyScope) where
       → after_command b (entry 46 name) (record { types = reverse q.ins; receivers = rs }) ≡ Ok nothing
   call_taken name q rs i a c =
       let n = length-reverse q.ins in
-      let m = alike-length (λ n t. standing b n ≡ changeable t) rs q.outs a in
+      let m = AllZip-long (λ n t. standing b n ≡ changeable t) rs q.outs a in
       let whole : take (length q.ins) (reverse q.ins) ≡ reverse q.ins = take_all (length q.ins) (reverse q.ins) (omega arith) in
       rw (i, n, whole, reverse-reverse, fits_itself, received_all rs q.outs a, c, m) (grind (arith, nat_tests))
 
@@ -348,7 +337,7 @@ module _ (b : BodyScope) where
   command_takes (a_call name {arguments} {receivers} q i ins outs apart covers) h l =
       let n = length-append (flat_map postfix arguments) (map (entry 47) receivers ++ (entry 46 name ∷ [])) in
       simp append_assoc (arguments_take arguments q.ins [] ins (omega arith)
-      (receivers-take receivers q.outs (reverse q.ins) [] outs apart (one (call_taken name q receivers i outs covers) l)))
+      (rw append-nil (receivers-take receivers q.outs (reverse q.ins) [] outs apart (one (call_taken name q receivers i outs covers) l))))
 
   commands-take : (cs : List Command) → AllByRecursion (Right b) cs → length (flat_map written cs) ≤ 1024 → Takes (flat_map written cs) nothing nothing
   commands-take [] a h = end

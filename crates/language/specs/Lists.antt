@@ -1,5 +1,6 @@
 -- Words on lists that other files share.
 use Rattle.std.specs.Prelude.{ℕ, Bool, false, ◌||◌, List, [], ◌∷◌, ◌==◌}
+use Rattle.std.specs.List.{AllZip}
 
 -- Is the number among these?
 abbrev pub member : ℕ → List ℕ → Bool
@@ -8,7 +9,4 @@ member n (x ∷ xs) = x == n || member n xs
 
 -- Two lists of one length, related place by place.
 abbrev pub Alike : {A B : Type 0} → (A → B → Type 0) → List A → List B → Type 0
-Alike R [] [] = Unit {0}
-Alike R [] (y ∷ ys) = ⊥
-Alike R (x ∷ xs) [] = ⊥
-Alike R (x ∷ xs) (y ∷ ys) = R x y × Alike R xs ys
+Alike R xs ys = AllZip R xs ys

@@ -2,11 +2,13 @@
 #![tactic(auto)]
 
 ghost use Rattle.language.specs.CommandChecking.{ExactCommands};
-ghost use Rattle.language.specs.Codes.{alike, result_of};
+ghost use Rattle.language.specs.Codes.{result_of};
 ghost use Rattle.std.specs.Prelude.{◌≡◌};
 
 /// The type of a value, by its number.
-#[derive(Clone, Copy)]
+// A number and no enum: a lent list may hold any number as a type, which then fits itself alone, and further types are
+// to come.
+#[derive(Clone, Copy, PartialEq, Eq, Debug)]
 pub struct ValueType {
     pub number: u32,
 }
@@ -19,17 +21,10 @@ impl ValueType {
     pub const REF: ValueType = ValueType { number: 3 };
 
     pub const NAME: ValueType = ValueType { number: 4 };
-
-    /// Are these the same type?
-    pub fn is(self, other: ValueType) -> bool
-        ensures { result ≡ alike self other }
-    {
-        self.number == other.number
-    }
 }
 
 /// The types of a code's operands, in their order.
-#[derive(Clone, Copy)]
+#[derive(Clone, Copy, PartialEq, Eq, Debug)]
 pub enum Operands {
     None,
     One(ValueType),
@@ -37,6 +32,7 @@ pub enum Operands {
 }
 
 /// The type of the result of an expression code on operands of these types, where they suit it.
+// Codes stay the numbers that a page holds, so this one match over their ranges is the whole typing table.
 pub fn result_type(code: u32, operands: Operands) -> Option<ValueType>
     ensures { result ≡ result_of code operands }
 {
@@ -44,19 +40,19 @@ pub fn result_type(code: u32, operands: Operands) -> Option<ValueType>
         (1..=2, Operands::None) => Some(ValueType::BOOL),
         (3, Operands::None) => Some(ValueType::REF),
         (4, Operands::None) => Some(ValueType::INT),
-        (12, Operands::One(x)) if x.is(ValueType::BOOL) => Some(ValueType::BOOL),
-        (13, Operands::One(x)) if x.is(ValueType::INT) => Some(ValueType::INT),
-        (14..=15, Operands::Two(x, y)) if x.is(y) => Some(ValueType::BOOL),
-        (16..=19, Operands::Two(x, y)) if x.is(ValueType::INT) && y.is(ValueType::INT) => {
+        (12, Operands::One(x)) if x == ValueType::BOOL => Some(ValueType::BOOL),
+        (13, Operands::One(x)) if x == ValueType::INT => Some(ValueType::INT),
+        (14..=15, Operands::Two(x, y)) if x == y => Some(ValueType::BOOL),
+        (16..=19, Operands::Two(x, y)) if x == ValueType::INT && y == ValueType::INT => {
             Some(ValueType::BOOL)
         }
-        (20, Operands::Two(x, y)) if x.is(ValueType::NAME) && y.is(ValueType::NAME) => {
+        (20, Operands::Two(x, y)) if x == ValueType::NAME && y == ValueType::NAME => {
             Some(ValueType::BOOL)
         }
-        (21..=25, Operands::Two(x, y)) if x.is(ValueType::INT) && y.is(ValueType::INT) => {
+        (21..=25, Operands::Two(x, y)) if x == ValueType::INT && y == ValueType::INT => {
             Some(ValueType::INT)
         }
-        (26..=29, Operands::Two(x, y)) if x.is(ValueType::BOOL) && y.is(ValueType::BOOL) => {
+        (26..=29, Operands::Two(x, y)) if x == ValueType::BOOL && y == ValueType::BOOL => {
             Some(ValueType::BOOL)
         }
         _ => None,

@@ -1,5 +1,6 @@
 -- Which call the numbers of a line make.
 use Rattle.std.specs.Prelude.{ℕ, ◌+◌, ◌*◌, min, cond, List, [], ◌∷◌, length, take, drop, Some, None, Ok, Err, codes, Option, Result, ◌==◌}
+use Rattle.std.specs.Option.{ok_or}
 use Rattle.lines.specs.declared.calls.CallKind.{CallKind}
 use Rattle.lines.specs.declared.calls.CallKind.TheVariants.{Declare, Settle, Begin, Block, Finish, Write, Shut}
 use Rattle.lines.specs.declared.errors.LineError.{LineError}
@@ -28,6 +29,10 @@ abbrev pub kind_of : ℕ → Option CallKind
 kind_of n =
     cond (n == 1) (Some Declare) (cond (n == 2) (Some Settle) (cond (n == 3) (Some Begin) (cond (n == 4) (Some Block)
     (cond (n == 5) (Some Finish) (cond (n == 6) (Some Write) (cond (n == 7) (Some Shut) None))))))
+
+-- The call of a number, or the error that there is none.
+abbrev pub called : ℕ → Result CallKind LineError
+called n = ok_or (kind_of n) (UnknownCall n)
 
 abbrev pub kind_of_call : LineCall → CallKind
 kind_of_call (declare kind name page) = Declare

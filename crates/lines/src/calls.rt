@@ -1,6 +1,6 @@
 //! The calls: what the numbers of a line ask of the library.
 ghost use Rattle.std.specs.Prelude.{◌≡◌, ◌≤◌, length, take, drop};
-ghost use Rattle.lines.specs.Calls.{begin_of, block_of, call_of, command_end, declare_of, finish_of, kind_of, kind_of_call, line_of, name_of, number_of, only};
+ghost use Rattle.lines.specs.Calls.{begin_of, block_of, call_of, command_end, declare_of, finish_of, kind_of, kind_of_call, line_of, name_of, number_of, only, called};
 ghost use Rattle.lines.specs.Lines.{shown, the_error};
 ghost use Rattle.std.specs.Result.{result_map_both};
 
@@ -8,7 +8,7 @@ use crate::errors::LineError;
 use std::fmt;
 
 /// The calls of the library, by their numbers.
-#[derive(Clone, Copy)]
+#[derive(Clone, Copy, Debug, PartialEq, Eq)]
 pub enum CallKind {
     Declare = 1,
     Settle = 2,
@@ -20,7 +20,7 @@ pub enum CallKind {
 }
 
 /// A call with its arguments. The pages are parts of the line's numbers.
-#[derive(Clone, Copy)]
+#[derive(Clone, Copy, Debug, PartialEq, Eq)]
 pub enum Call<'a> {
     Declare {
         kind: u32,
@@ -42,38 +42,36 @@ pub enum Call<'a> {
     Shut,
 }
 
-impl CallKind {
-    /// The call of this number.
-    pub fn of(number: u32) -> Option<CallKind>
-        ensures { result ≡ kind_of number }
-    {
+/// The call of a number.
+impl TryFrom<u32> for CallKind {
+    type Error = LineError;
+
+    ghost try_from_gives = { λ n r. r ≡ called n };
+
+    fn try_from(number: u32) -> Result<CallKind, LineError> {
         match number {
-            1 => Some(CallKind::Declare),
-            2 => Some(CallKind::Settle),
-            3 => Some(CallKind::Begin),
-            4 => Some(CallKind::Block),
-            5 => Some(CallKind::Finish),
-            6 => Some(CallKind::Write),
-            7 => Some(CallKind::Shut),
-            _ => None,
+            1 => Ok(CallKind::Declare),
+            2 => Ok(CallKind::Settle),
+            3 => Ok(CallKind::Begin),
+            4 => Ok(CallKind::Block),
+            5 => Ok(CallKind::Finish),
+            6 => Ok(CallKind::Write),
+            7 => Ok(CallKind::Shut),
+            _ => Err(LineError::UnknownCall { number }),
         }
     }
+}
 
-    /// The number of this call.
-    pub fn number(self) -> u32
-        ensures { result ≡ number_of self }
-    {
-        match self {
-            CallKind::Declare => 1,
-            CallKind::Settle => 2,
-            CallKind::Begin => 3,
-            CallKind::Block => 4,
-            CallKind::Finish => 5,
-            CallKind::Write => 6,
-            CallKind::Shut => 7,
-        }
+/// The number of a call.
+impl From<CallKind> for u32 {
+    ghost from_gives = { λ k n. n ≡ number_of k };
+
+    fn from(kind: CallKind) -> u32 {
+        kind as u32
     }
+}
 
+impl CallKind {
     /// The name of this call, for messages.
     pub fn name(self) -> &'static str
         ensures { result.now ≡ name_of self }
@@ -109,42 +107,37 @@ impl Call<'_> {
 
 impl fmt::Display for CallKind {
     fn fmt<W: fmt::Write>(&self, f: &mut fmt::Formatter<W>) -> fmt::Result {
-        let number = self.number();
-        let name = self.name();
-        write!(f, "call {number} ({name})")
+        write!(f, "call {} ({})", u32::from(*self), self.name())
     }
 }
 
 /// The call that the numbers of a line make.
-pub fn parse_call<'a>(numbers: &'a [u32]) -> Result<Call<'a>, LineError>
+pub fn parse_call(numbers: &[u32]) -> Result<Call<'_>, LineError>
     ensures { result_map_both shown the_error result ≡ line_of numbers.now }
 {
     let [number, rest @ ..] = numbers else {
         return Err(LineError::NoCall);
     };
-    match CallKind::of(*number) {
-        Some(kind) => call_of_kind(kind, rest),
-        None => Err(LineError::UnknownCall { number: *number }),
-    }
+    call_of_kind(CallKind::try_from(*number)?, rest)
 }
 
 /// The call of this kind with these arguments.
-fn call_of_kind<'a>(kind: CallKind, arguments: &'a [u32]) -> Result<Call<'a>, LineError>
+fn call_of_kind(kind: CallKind, arguments: &[u32]) -> Result<Call<'_>, LineError>
     ensures { result_map_both shown the_error result ≡ call_of kind arguments.now }
 {
     match kind {
         CallKind::Declare => declare_call(arguments),
-        CallKind::Settle => bare_call(kind, Call::Settle, arguments),
+        CallKind::Settle => bare_call(Call::Settle, arguments),
         CallKind::Begin => begin_call(arguments),
         CallKind::Block => block_call(arguments),
         CallKind::Finish => finish_call(arguments),
-        CallKind::Write => bare_call(kind, Call::Write, arguments),
-        CallKind::Shut => bare_call(kind, Call::Shut, arguments),
+        CallKind::Write => bare_call(Call::Write, arguments),
+        CallKind::Shut => bare_call(Call::Shut, arguments),
     }
 }
 
 /// Declare: a kind, a name, and the page, which is the rest of the line.
-fn declare_call<'a>(arguments: &'a [u32]) -> Result<Call<'a>, LineError>
+fn declare_call(arguments: &[u32]) -> Result<Call<'_>, LineError>
     ensures { result_map_both shown the_error result ≡ declare_of arguments.now }
 {
     let [kind, name, page @ ..] = arguments else {
@@ -160,7 +153,7 @@ fn declare_call<'a>(arguments: &'a [u32]) -> Result<Call<'a>, LineError>
 }
 
 /// Begin: a name, and the page, which is the rest of the line.
-fn begin_call<'a>(arguments: &'a [u32]) -> Result<Call<'a>, LineError>
+fn begin_call(arguments: &[u32]) -> Result<Call<'_>, LineError>
     ensures { result_map_both shown the_error result ≡ begin_of arguments.now }
 {
     let [name, page @ ..] = arguments else {
@@ -172,7 +165,7 @@ fn begin_call<'a>(arguments: &'a [u32]) -> Result<Call<'a>, LineError>
 }
 
 /// Block: a name, the command page, and the target page.
-fn block_call<'a>(arguments: &'a [u32]) -> Result<Call<'a>, LineError>
+fn block_call(arguments: &[u32]) -> Result<Call<'_>, LineError>
     ensures { result_map_both shown the_error result ≡ block_of arguments.now }
 {
     let [name, pages @ ..] = arguments else {
@@ -189,7 +182,7 @@ fn block_call<'a>(arguments: &'a [u32]) -> Result<Call<'a>, LineError>
 }
 
 /// Finish: the number 0, and nothing else.
-fn finish_call<'a>(arguments: &'a [u32]) -> Result<Call<'a>, LineError>
+fn finish_call(arguments: &[u32]) -> Result<Call<'_>, LineError>
     ensures { result_map_both shown the_error result ≡ finish_of arguments.now }
 {
     let call = CallKind::Finish;
@@ -202,24 +195,20 @@ fn finish_call<'a>(arguments: &'a [u32]) -> Result<Call<'a>, LineError>
 }
 
 /// A call that takes no arguments.
-fn bare_call<'a>(
-    kind: CallKind,
-    call: Call<'a>,
-    arguments: &'a [u32],
-) -> Result<Call<'a>, LineError>
-    ensures { result_map_both shown the_error result ≡ only kind (shown call.entry) arguments.now }
+fn bare_call<'a>(call: Call<'a>, arguments: &[u32]) -> Result<Call<'a>, LineError>
+    ensures { result_map_both shown the_error result ≡ only (kind_of_call (shown call.entry)) (shown call.entry) arguments.now }
 {
     if arguments.is_empty() {
         Ok(call)
     } else {
-        Err(LineError::SurplusArguments { call: kind })
+        Err(LineError::SurplusArguments { call: call.kind() })
     }
 }
 
 /// The command page and the target page that stand one behind the other.
 /// Where the numbers are too few for the command page that its own sizes announce, all of them are
 /// the command page and the target page is empty.
-pub fn split_pages<'a>(pages: &'a [u32]) -> (&'a [u32], &'a [u32])
+pub fn split_pages(pages: &[u32]) -> (&[u32], &[u32])
     ensures commands { result.0.now ≡ take (command_end pages.now) pages.now }
     ensures targets { result.1.now ≡ drop (command_end pages.now) pages.now }
 {

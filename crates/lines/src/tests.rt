@@ -5,31 +5,25 @@ use crate::words::{WordError, parse_word};
 
 #[test]
 fn words(rt: HostRuntime) {
-    assert!(rt; matches!(parse_word(b"0042"), Ok(42)));
-    assert!(rt; matches!(parse_word(b"4294967295"), Ok(4_294_967_295)));
-    assert!(rt; matches!(parse_word(b"+5"), Err(WordError::NotNumber)));
-    assert!(rt; matches!(parse_word(b"99999999999x"), Err(WordError::NotNumber)));
-    assert!(rt; matches!(parse_word(b"4294967296"), Err(WordError::TooLarge)));
+    assert_eq!(rt; parse_word(b"0042"), Ok(42));
+    assert_eq!(rt; parse_word(b"4294967295"), Ok(4_294_967_295));
+    assert_eq!(rt; parse_word(b"+5"), Err(WordError::NotNumber));
+    assert_eq!(rt; parse_word(b"99999999999x"), Err(WordError::NotNumber));
+    assert_eq!(rt; parse_word(b"4294967296"), Err(WordError::TooLarge));
 }
 
 #[test]
 fn lines_that_are_no_calls(rt: HostRuntime) {
-    assert!(rt; matches!(parse_call(&[9]), Err(LineError::UnknownCall { number: 9 })));
-    assert!(rt;
-        matches!(
-            parse_call(&[1, 3]),
-            Err(LineError::MissingArguments {
-                call: CallKind::Declare
-            })
-        )
+    assert_eq!(rt; parse_call(&[9]), Err(LineError::UnknownCall { number: 9 }));
+    let call = CallKind::Declare;
+    assert_eq!(rt;
+        parse_call(&[1, 3]),
+        Err(LineError::MissingArguments { call })
     );
-    assert!(rt;
-        matches!(
-            parse_call(&[2, 0]),
-            Err(LineError::SurplusArguments {
-                call: CallKind::Settle
-            })
-        )
+    let call = CallKind::Settle;
+    assert_eq!(rt;
+        parse_call(&[2, 0]),
+        Err(LineError::SurplusArguments { call })
     );
 }
 

@@ -3,20 +3,36 @@ ghost use Rattle.lines.specs.Words.{error_at, word_of};
 ghost use Rattle.std.specs.Prelude.{◌≡◌};
 
 use crate::errors::LineError;
+use thiserror::Error;
 
 /// Anything from here on is too large; the sum of a word's digits stays here once it comes so far.
 const TOO_LARGE: u64 = 4_294_967_296;
 
 /// Why a word is no number that the program takes.
-#[derive(Clone, Copy)]
+#[derive(Clone, Copy, Debug, PartialEq, Eq, Error)]
 pub enum WordError {
     /// It is empty, or has something else than digits.
+    #[error("not a number")]
     NotNumber,
     /// It is above 4,294,967,295.
+    #[error("above 4294967295")]
     TooLarge,
 }
 
+impl WordError {
+    /// What is wrong with the line, where this is wrong with its word of this number.
+    pub fn at(self, word: usize) -> LineError
+        ensures { result ≡ error_at word self }
+    {
+        match self {
+            WordError::NotNumber => LineError::NotNumber { word },
+            WordError::TooLarge => LineError::TooLarge { word },
+        }
+    }
+}
+
 /// The number that a word of decimal digits stands for.
+#[tactic(auto, using(crate::proofs::Digits::goes))]
 pub fn parse_word(word: &[u8]) -> Result<u32, WordError>
     ensures { result ≡ word_of word.now }
 {
@@ -25,25 +41,15 @@ pub fn parse_word(word: &[u8]) -> Result<u32, WordError>
     }
     let mut value: u64 = 0;
     for byte in word {
-        if *byte < b'0' || *byte > b'9' {
+        if !byte.is_ascii_digit() {
             return Err(WordError::NotNumber);
         }
-        let digit = *byte - b'0';
-        value = (value * 10 + digit as u64).min(TOO_LARGE);
+        let digit = u64::from(*byte - b'0');
+        value = (value * 10 + digit).min(TOO_LARGE);
     }
     if value < TOO_LARGE {
         Ok(value as u32)
     } else {
         Err(WordError::TooLarge)
-    }
-}
-
-/// What is wrong with the line, where this is wrong with one of its words.
-pub fn line_error(error: WordError, word: usize) -> LineError
-    ensures { result ≡ error_at word error }
-{
-    match error {
-        WordError::NotNumber => LineError::NotNumber { word },
-        WordError::TooLarge => LineError::TooLarge { word },
     }
 }

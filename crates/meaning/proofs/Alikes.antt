@@ -1,25 +1,22 @@
 -- Lists that are alike, place by place, and lists that are counted or dropped.
-use Rattle.std.proofs.Common.{◌≡◌, ℕ, zero, suc, ◌+◌, ◌<◌, List, [], ◌∷◌, ◌++◌, length, get_or, take, drop, set, Some, None, sym, refl, ap, ◌∙◌, le_of_suc-le-suc, not-suc-le-zero, add-zero, add-suc, suc-add, arith}
+use Rattle.std.proofs.Common.{◌≡◌, ℕ, zero, suc, ◌+◌, ◌<◌, List, [], ◌∷◌, ◌++◌, length, get_or, take, drop, set, Some, sym, refl, ap, ◌∙◌, le_of_suc-le-suc, not-suc-le-zero, add-zero, add-suc, suc-add, arith}
 use Rattle.std.specs.List.{slice_get}
 use Rattle.std.proofs.lemmas.List.{length-drop, get_or-drop}
+use Rattle.std.proofs.lemmas.Option.{none-some}
 use Rattle.language.specs.Lists.{Alike}
 use Rattle.meaning.specs.Lists.{put, counted}
-
--- An option is not both empty and not.
-pub none_some : {A : Type 0} {a : A} → None ≡ Some a → ⊥
-none_some e = let z : ◌≡◌ {A = ℕ} 0 1 = cc in omega arith
 
 module _ {A B : Type 0} (R : A → B → Type 0) where
   -- What stands at a place that the first list has.
   pub alike_at : (xs : List A) (ys : List B) (n : ℕ) (a : A) (d : B) → Alike R xs ys → slice_get xs n ≡ Some a → R a (get_or ys n d)
-  alike_at [] ys n a d h e = absurd (none_some e)
+  alike_at [] ys n a d h e = absurd (none-some _ e)
   alike_at (x ∷ xs) [] n a d h e = absurd h
   alike_at (x ∷ xs) (y ∷ ys) zero a d h e = let same : x ≡ a = cc in rw (← same) h.0
   alike_at (x ∷ xs) (y ∷ ys) (suc n) a d h e = alike_at xs ys n a d h.1 e
 
   -- One place set in the second list.
   pub alike_set : (xs : List A) (ys : List B) (n : ℕ) (a : A) (b : B) → Alike R xs ys → slice_get xs n ≡ Some a → R a b → Alike R xs (set ys n b)
-  alike_set [] ys n a b h e k = absurd (none_some e)
+  alike_set [] ys n a b h e k = absurd (none-some _ e)
   alike_set (x ∷ xs) [] n a b h e k = absurd h
   alike_set (x ∷ xs) (y ∷ ys) zero a b h e k = let same : x ≡ a = cc in (rw same k, h.1)
   alike_set (x ∷ xs) (y ∷ ys) (suc n) a b h e k = (h.0, alike_set xs ys n a b h.1 e k)

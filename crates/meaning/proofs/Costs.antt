@@ -21,16 +21,16 @@ cost_tell : (c a : ℕ) (es : List ℕ) → Costs (tell c a es) 1 (λ e. Unit {0
 unfolding tell
 cost_tell c a es = record { most = λ s. omega arith; post = λ s. tt }
 
-cost_bind : {A B : Type 0} {m : Telling A} {f : A → Telling B} (a b : ℕ) {Q : B → Type 0} (P : A → Type 0) → Costs m a P → ((x : A) → P x → Costs (f x) b Q) → Costs (m >>= f) (a + b) Q
+cost_bind : {A B : Type 0} {m : Telling A} {f : A → Telling B} {a b : ℕ} {P : A → Type 0} {Q : B → Type 0} → Costs m a P → ((x : A) → P x → Costs (f x) b Q) → Costs (m >>= f) (a + b) Q
 unfolding ◌>>=◌
-cost_bind {m = m} {f = f} a b P h k =
+cost_bind {m = m} {f = f} {a = a} {b = b} h k =
     record { most = λ s. bound (length s) (length (m s).1) _ (h.most s) ((k (m s).0 (h.post s)).most (m s).1); post = λ s. (k (m s).0 (h.post s)).post (m s).1 }
   where
     bound : (x y z : ℕ) → y ≤ x + a → z ≤ y + b → z ≤ x + (a + b)
     bound x y z g h = omega arith
 
-cost_more : {A : Type 0} {m : Telling A} (a b : ℕ) {P : A → Type 0} → a ≤ b → Costs m a P → Costs m b P
-cost_more {m = m} a b l h = record { most = λ s. go (length s) (length (m s).1) (h.most s); post = h.post }
+cost_more : {A : Type 0} {m : Telling A} {a b : ℕ} {P : A → Type 0} → Costs m a P → a ≤ b → Costs m b P
+cost_more {m = m} {a = a} {b = b} h l = record { most = λ s. go (length s) (length (m s).1) (h.most s); post = h.post }
   where
     go : (x y : ℕ) → y ≤ x + a → y ≤ x + b
     go x y g = omega arith
@@ -38,24 +38,21 @@ cost_more {m = m} a b l h = record { most = λ s. go (length s) (length (m s).1)
 symbols_cost : (m n : ℕ) → Costs (tell_symbols n m) m (λ xs. length xs ≡ m)
 symbols_cost zero n = cost_answer [] refl
 symbols_cost (suc m) n =
-    cost_more (1 + (m + 0)) (suc m) (omega arith)
-    (cost_bind 1 (m + 0) (λ x. Unit {0}) (cost_tell 7 n []) (λ x _. cost_bind m 0 (λ xs. length xs ≡ m) (symbols_cost m (suc n)) (λ xs h. cost_answer (x ∷ xs) (ap suc h))))
+    cost_more (cost_bind (cost_tell 7 n []) (λ x _. cost_bind (symbols_cost m (suc n)) (λ xs h. cost_answer (x ∷ xs) (ap suc h)))) (omega arith)
 
 value_cost : (e : Expression) (s o : List ℕ) → Costs (tell_value s o e) (size e) (λ x. Unit {0})
 value_cost (leaf c a) s o = cost_tell c a []
 value_cost (constant n) s o = cost_tell 5 n []
-value_cost (variable x) s o = cost_more 0 1 (omega arith) (cost_answer (get_or s x 0) tt)
-value_cost (before x) s o = cost_more 0 1 (omega arith) (cost_answer (get_or o x 0) tt)
-value_cost (one c e) s o = cost_bind (size e) 1 (λ x. Unit {0}) (value_cost e s o) (λ x _. cost_tell c 0 (x ∷ []))
+value_cost (variable x) s o = cost_more (cost_answer (get_or s x 0) tt) (omega arith)
+value_cost (before x) s o = cost_more (cost_answer (get_or o x 0) tt) (omega arith)
+value_cost (one c e) s o = cost_bind (value_cost e s o) (λ x _. cost_tell c 0 (x ∷ []))
 value_cost (two c e f) s o =
-    cost_more (size e + (size f + 1)) (size e + size f + 1) (omega arith)
-    (cost_bind (size e) (size f + 1) (λ x. Unit {0}) (value_cost e s o) (λ x _. cost_bind (size f) 1 (λ x. Unit {0}) (value_cost f s o) (λ y _. cost_tell c 0 (x ∷ y ∷ []))))
+    cost_more (cost_bind (value_cost e s o) (λ x _. cost_bind (value_cost f s o) (λ y _. cost_tell c 0 (x ∷ y ∷ [])))) (omega arith)
 
 values_cost : (es : List Expression) (s o : List ℕ) → Costs (tell_values s o es) (sizes es) (λ xs. length xs ≡ length es)
 values_cost [] s o = cost_answer [] refl
 values_cost (e ∷ es) s o =
-    cost_more (size e + (sizes es + 0)) (size e + sizes es) (omega arith)
-    (cost_bind (size e) (sizes es + 0) (λ x. Unit {0}) (value_cost e s o) (λ x _. cost_bind (sizes es) 0 (λ xs. length xs ≡ length es) (values_cost es s o) (λ xs h. cost_answer (x ∷ xs) (ap suc h))))
+    cost_more (cost_bind (value_cost e s o) (λ x _. cost_bind (values_cost es s o) (λ xs h. cost_answer (x ∷ xs) (ap suc h)))) (omega arith)
 
 -- The tells of commands.
 fw : Routine → List Command → ℕ
@@ -94,26 +91,23 @@ call_checks r p rs qs z n a b c = simp (length-append, length-map) (rw (a, b, c)
 commands_cost : (r : Routine) (cs : List Command) (n : ℕ) (s : List ℕ) → Costs (tell_commands r n s cs) (fw r cs) (λ p. length p.checks ≡ ck r cs)
 unfolding fw ck
 commands_cost r [] n s = cost_answer _ refl
-commands_cost r (assign x e ∷ cs) n s = cost_bind (size e) (fw r cs) (λ x. Unit {0}) (value_cost e s []) (λ y _. commands_cost r cs n (set s x y))
+commands_cost r (assign x e ∷ cs) n s = cost_bind (value_cost e s []) (λ y _. commands_cost r cs n (set s x y))
 commands_cost r (assert e ∷ cs) n s =
-    cost_more (size e + (fw r cs + 0)) (size e + fw r cs) (omega arith)
-    (cost_bind (size e) (fw r cs + 0) (λ x. Unit {0}) (value_cost e s []) (λ y _. cost_bind (fw r cs) 0 (λ p. length p.checks ≡ ck r cs) (commands_cost r cs n s) (λ p h. cost_answer _ (omega arith))))
+    cost_more (cost_bind (value_cost e s []) (λ y _. cost_bind (commands_cost r cs n s) (λ p h. cost_answer _ (omega arith)))) (omega arith)
 commands_cost r (assume e ∷ cs) n s =
-    cost_more (size e + (fw r cs + 0)) (size e + fw r cs) (omega arith)
-    (cost_bind (size e) (fw r cs + 0) (λ x. Unit {0}) (value_cost e s []) (λ y _. cost_bind (fw r cs) 0 (λ p. length p.checks ≡ ck r cs) (commands_cost r cs n s) (λ p h. cost_answer _ (omega arith))))
-commands_cost r (havoc x ∷ cs) n s = cost_bind 1 (fw r cs) (λ x. Unit {0}) (cost_tell 7 n []) (λ y _. commands_cost r cs (suc n) (set s x y))
+    cost_more (cost_bind (value_cost e s []) (λ y _. cost_bind (commands_cost r cs n s) (λ p h. cost_answer _ (omega arith)))) (omega arith)
+commands_cost r (havoc x ∷ cs) n s = cost_bind (cost_tell 7 n []) (λ y _. commands_cost r cs (suc n) (set s x y))
 commands_cost r (call p es xs ∷ cs) n s =
     let P = procedure r p in
     let a = length P.modifies in
     let b = length P.outs in
-    cost_more (sizes es + (sizes P.requires + (a + (b + (sizes P.ensures + (fw r cs + 0)))))) _ (omega arith)
-    (cost_bind (sizes es) (sizes P.requires + (a + (b + (sizes P.ensures + (fw r cs + 0))))) (λ xs. length xs ≡ length es) (values_cost es s []) (λ ins _.
-    cost_bind (sizes P.requires) (a + (b + (sizes P.ensures + (fw r cs + 0)))) (λ xs. length xs ≡ length P.requires) (values_cost P.requires _ []) (λ rs hr.
-    cost_bind a (b + (sizes P.ensures + (fw r cs + 0))) (λ xs. length xs ≡ a) (symbols_cost a n) (λ gs _.
-    cost_bind b (sizes P.ensures + (fw r cs + 0)) (λ xs. length xs ≡ b) (symbols_cost b (n + a)) (λ os _.
-    cost_bind (sizes P.ensures) (fw r cs + 0) (λ xs. length xs ≡ length P.ensures) (values_cost P.ensures _ s) (λ qs hq.
-    cost_bind (fw r cs) 0 (λ z. length z.checks ≡ ck r cs) (commands_cost r cs (n + a + b) _) (λ z hz.
-    cost_answer _ (call_checks r P rs qs z (ck r cs) hr hq hz))))))))
+    cost_more (cost_bind (values_cost es s []) (λ ins _.
+    cost_bind (values_cost P.requires _ []) (λ rs hr.
+    cost_bind (symbols_cost a n) (λ gs _.
+    cost_bind (symbols_cost b (n + a)) (λ os _.
+    cost_bind (values_cost P.ensures _ s) (λ qs hq.
+    cost_bind (commands_cost r cs (n + a + b) _) (λ z hz.
+    cost_answer _ (call_checks r P rs qs z (ck r cs) hr hq hz)))))))) (omega arith)
 
 -- The tells of a return.
 rf : Routine → List ℕ → ℕ
@@ -129,8 +123,7 @@ return_cost : (r : Routine) (ts start : List ℕ) (p : Passed ℕ) → Costs (te
 unfolding rf rk
 return_cost r (t ∷ ts) start p = cost_answer p (omega arith)
 return_cost r [] start p =
-    cost_more (sizes r.own.ensures + 0) (sizes r.own.ensures) (omega arith)
-    (cost_bind (sizes r.own.ensures) 0 (λ xs. length xs ≡ length r.own.ensures) (values_cost r.own.ensures p.ending start) (λ es h. cost_answer _ (simp (length-append, length-map) (rw h))))
+    cost_more (cost_bind (values_cost r.own.ensures p.ending start) (λ es h. cost_answer _ (simp (length-append, length-map) (rw h)))) (omega arith)
 
 -- What a told block leaves.
 record Left (r : Routine) (x : Begun ℕ) (b : Placed) : Type 0 where
@@ -145,14 +138,13 @@ ff r b = fw r b.block.commands + rf r b.block.targets
 block_cost : (r : Routine) (start s : List ℕ) (b : Placed) → length s ≤ length (variables r) → Costs (tell_block r start b s) (ff r b) (λ x. Left r x b)
 unfolding ff
 block_cost r start s b l =
-    cost_more (fw r b.block.commands + (rf r b.block.targets + 0)) _ (omega arith)
-    (cost_bind (fw r b.block.commands) (rf r b.block.targets + 0) (λ p. length p.checks ≡ ck r b.block.commands) (commands_cost r b.block.commands _ s) (λ p h.
-    cost_bind (rf r b.block.targets) 0 (λ z. length z.checks ≡ length p.checks + rk r b.block.targets) (return_cost r b.block.targets start p) (λ z g.
-    cost_answer _ (record { place_is = refl; symbols_most = l; checks_most = omega arith }))))
+    cost_more (cost_bind (commands_cost r b.block.commands _ s) (λ p h.
+    cost_bind (return_cost r b.block.targets start p) (λ z g.
+    cost_answer _ (record { place_is = refl; symbols_most = l; checks_most = omega arith })))) (omega arith)
 
 one_cost : (r : Routine) (start : List ℕ) (b : Placed) (c : Bool) → Costs (tell_if_reached r start b c) (length (variables r) + ff r b) (λ x. Left r x b)
-one_cost r start b false = cost_more 0 _ (omega arith) (cost_answer _ (record { place_is = refl; symbols_most = omega arith; checks_most = omega arith }))
-one_cost r start b true = cost_bind (length (variables r)) (ff r b) (λ xs. length xs ≡ length (variables r)) (symbols_cost (length (variables r)) b.first) (λ s h. block_cost r start s b (omega arith))
+one_cost r start b false = cost_more (cost_answer _ (record { place_is = refl; symbols_most = omega arith; checks_most = omega arith })) (omega arith)
+one_cost r start b true = cost_bind (symbols_cost (length (variables r)) b.first) (λ s h. block_cost r start s b (omega arith))
 
 -- The tells of blocks.
 fsum : Routine → List Placed → ℕ
@@ -163,16 +155,14 @@ forward_cost : (r : Routine) (start : List ℕ) (bs : List Placed) → Costs (fo
 unfolding fsum
 forward_cost r start [] = cost_answer [] tt
 forward_cost r start (b ∷ bs) =
-    cost_more ((length (variables r) + ff r b) + (fsum r bs + 0)) _ (omega arith)
-    (cost_bind (length (variables r) + ff r b) (fsum r bs + 0) (λ x. Left r x b) (one_cost r start b b.reached) (λ x h.
-    cost_bind (fsum r bs) 0 (λ xs. Alike (Left r) xs bs) (forward_cost r start bs) (λ xs g. cost_answer (x ∷ xs) (h, g))))
+    cost_more (cost_bind (one_cost r start b b.reached) (λ x h.
+    cost_bind (forward_cost r start bs) (λ xs g. cost_answer (x ∷ xs) (h, g)))) (omega arith)
 
 links_cost : (ss es : List ℕ) (f : ℕ) → Costs (tell_links ss es f) (2 * length ss) (λ x. Unit {0})
 links_cost [] es f = cost_answer f tt
-links_cost (s ∷ ss) [] f = cost_more 0 _ (omega arith) (cost_answer f tt)
+links_cost (s ∷ ss) [] f = cost_more (cost_answer f tt) (omega arith)
 links_cost (s ∷ ss) (e ∷ es) f =
-    cost_more (2 * length ss + (1 + 1)) (2 * suc (length ss)) (omega arith)
-    (cost_bind (2 * length ss) (1 + 1) (λ x. Unit {0}) (links_cost ss es f) (λ y _. cost_bind 1 1 (λ x. Unit {0}) (cost_tell 14 0 (s ∷ e ∷ [])) (λ x _. cost_tell 28 0 (x ∷ y ∷ []))))
+    cost_more (cost_bind (links_cost ss es f) (λ y _. cost_bind (cost_tell 14 0 (s ∷ e ∷ [])) (λ x _. cost_tell 28 0 (x ∷ y ∷ [])))) (omega arith)
 
 -- The tells of the targets' formulas, joined, v being the number of variables.
 tc : ℕ → List ℕ → ℕ
@@ -184,18 +174,17 @@ unfolding tc
 targets_cost v k xs h [] fs ending = cost_tell 2 0 []
 targets_cost v k xs h (t ∷ []) fs ending =
     let g = h (t - k) in
-    cost_more (2 * length (get_or xs (t - k) unbegun).symbols) (1 * (2 * v + 1)) (omega arith) (links_cost (get_or xs (t - k) unbegun).symbols ending (get_or fs (t - k) 0))
+    cost_more (links_cost (get_or xs (t - k) unbegun).symbols ending (get_or fs (t - k) 0)) (omega arith)
 targets_cost v k xs h (t ∷ u ∷ ts) fs ending =
     let g = h (t - k) in
     let n = length (get_or xs (t - k) unbegun).symbols in
-    cost_more (suc (length ts) * (2 * v + 1) + (2 * n + 1)) (suc (suc (length ts)) * (2 * v + 1)) (rw (suc-mul (suc (length ts)) (2 * v + 1)) (omega arith))
-    (cost_bind (suc (length ts) * (2 * v + 1)) (2 * n + 1) (λ x. Unit {0}) (targets_cost v k xs h (u ∷ ts) fs ending) (λ y _.
-    cost_bind (2 * n) 1 (λ x. Unit {0}) (links_cost (get_or xs (t - k) unbegun).symbols ending (get_or fs (t - k) 0)) (λ x _. cost_tell 26 0 (x ∷ y ∷ []))))
+    cost_more (cost_bind (targets_cost v k xs h (u ∷ ts) fs ending) (λ y _.
+    cost_bind (links_cost (get_or xs (t - k) unbegun).symbols ending (get_or fs (t - k) 0)) (λ x _. cost_tell 26 0 (x ∷ y ∷ [])))) (rw (suc-mul (suc (length ts)) (2 * v + 1)) (omega arith))
 
 checks_cost : (cs : List (Check ℕ)) (f : ℕ) → Costs (tell_checks cs f) (length cs) (λ x. Unit {0})
 checks_cost [] f = cost_answer f tt
-checks_cost (tested x ∷ cs) f = cost_more (length cs + 1) (suc (length cs)) (omega arith) (cost_bind (length cs) 1 (λ x. Unit {0}) (checks_cost cs f) (λ y _. cost_tell 26 0 (x ∷ y ∷ [])))
-checks_cost (assumed x ∷ cs) f = cost_more (length cs + 1) (suc (length cs)) (omega arith) (cost_bind (length cs) 1 (λ x. Unit {0}) (checks_cost cs f) (λ y _. cost_tell 28 0 (x ∷ y ∷ [])))
+checks_cost (tested x ∷ cs) f = cost_more (cost_bind (checks_cost cs f) (λ y _. cost_tell 26 0 (x ∷ y ∷ []))) (omega arith)
+checks_cost (assumed x ∷ cs) f = cost_more (cost_bind (checks_cost cs f) (λ y _. cost_tell 28 0 (x ∷ y ∷ []))) (omega arith)
 
 -- The tells of a block's formula.
 bb : Routine → Placed → ℕ
@@ -203,12 +192,11 @@ bb r b = tc (length (variables r)) b.block.targets + (ck r b.block.commands + rk
 
 formula_cost : (r : Routine) (k : ℕ) (xs : List (Begun ℕ)) (fs : List ℕ) (x : Begun ℕ) (b : Placed) (c : Bool) → ((j : ℕ) → length (get_or xs j unbegun).symbols ≤ length (variables r)) → Left r x b → Costs (tell_formula k xs fs x c) (bb r b) (λ x. Unit {0})
 unfolding bb
-formula_cost r k xs fs x b false h l = cost_more 0 _ (omega arith) (cost_answer 0 tt)
+formula_cost r k xs fs x b false h l = cost_more (cost_answer 0 tt) (omega arith)
 formula_cost r k xs fs x b true h l =
     let e : tc (length (variables r)) x.placed.block.targets ≡ tc (length (variables r)) b.block.targets = ap (λ (p : Placed). tc (length (variables r)) p.block.targets) l.place_is in
     let g = l.checks_most in
-    cost_more (tc (length (variables r)) x.placed.block.targets + length x.passed.checks) _ (omega arith)
-    (cost_bind (tc (length (variables r)) x.placed.block.targets) (length x.passed.checks) (λ x. Unit {0}) (targets_cost (length (variables r)) k xs h x.placed.block.targets fs x.passed.ending) (λ f _. checks_cost x.passed.checks f))
+    cost_more (cost_bind (targets_cost (length (variables r)) k xs h x.placed.block.targets fs x.passed.ending) (λ f _. checks_cost x.passed.checks f)) (omega arith)
 
 symbols_short : (r : Routine) (xs : List (Begun ℕ)) (bs : List Placed) → Alike (Left r) xs bs → (j : ℕ) → length (get_or xs j unbegun).symbols ≤ length (variables r)
 symbols_short r [] bs h j = omega arith
@@ -227,9 +215,8 @@ backward_cost r [] [] k h = cost_answer [] tt
 backward_cost r [] (x ∷ xs) k h = absurd h
 backward_cost r (b ∷ bs) [] k h = absurd h
 backward_cost r (b ∷ bs) (x ∷ xs) k h =
-    cost_more (bsum r bs + (bb r b + 0)) (bb r b + bsum r bs) (omega arith)
-    (cost_bind (bsum r bs) (bb r b + 0) (λ fs. Unit {0}) (backward_cost r bs xs (suc k) h.1) (λ fs _.
-    cost_bind (bb r b) 0 (λ f. Unit {0}) (formula_cost r (suc k) xs fs x b x.placed.reached (symbols_short r xs bs h.1) h.0) (λ f _. cost_answer _ tt)))
+    cost_more (cost_bind (backward_cost r bs xs (suc k) h.1) (λ fs _.
+    cost_bind (formula_cost r (suc k) xs fs x b x.placed.reached (symbols_short r xs bs h.1) h.0) (λ f _. cost_answer _ tt))) (omega arith)
 
 one_block : (r : Routine) (b : Placed) → SoundCommands r b.block.commands → (ts : List ℕ) → b.block.targets ≡ ts
     → (length (variables r) + (fw r b.block.commands + rf r ts)) + (tc (length (variables r)) ts + (ck r b.block.commands + rk r ts)) ≤ entries b.block.commands + called r b.block.commands + returning r ts + length ts * (2 * length (variables r) + 1) + (length (variables r) + 1)
@@ -262,16 +249,15 @@ telling_cost r b bs =
     let v = length (variables r) in
     let A = r.axioms in
     let Q = r.own.requires in
-    cost_more (v + (sizes A + (sizes Q + (ff r b + (fsum r bs + (bsum r bs + (bb r b + (length Q + length A)))))))) _ (omega arith)
-    (cost_bind v (sizes A + (sizes Q + (ff r b + (fsum r bs + (bsum r bs + (bb r b + (length Q + length A))))))) (λ xs. length xs ≡ v) (symbols_cost v 0) (λ start hs.
-    cost_bind (sizes A) (sizes Q + (ff r b + (fsum r bs + (bsum r bs + (bb r b + (length Q + length A)))))) (λ xs. length xs ≡ length A) (values_cost A [] []) (λ axioms ha.
-    cost_bind (sizes Q) (ff r b + (fsum r bs + (bsum r bs + (bb r b + (length Q + length A))))) (λ xs. length xs ≡ length Q) (values_cost Q start []) (λ requires hq.
-    cost_bind (ff r b) (fsum r bs + (bsum r bs + (bb r b + (length Q + length A)))) (λ x. Left r x b) (block_cost r start start b (omega arith)) (λ x hx.
-    cost_bind (fsum r bs) (bsum r bs + (bb r b + (length Q + length A))) (λ xs. Alike (Left r) xs bs) (forward_cost r start bs) (λ xs hxs.
-    cost_bind (bsum r bs) (bb r b + (length Q + length A)) (λ fs. Unit {0}) (backward_cost r bs xs 1 hxs) (λ fs _.
-    cost_bind (bb r b) (length Q + length A) (λ f. Unit {0}) (formula_cost r 1 xs fs x b true (symbols_short r xs bs hxs) hx) (λ f _.
-    cost_bind (length Q) (length A) (λ g. Unit {0}) (cost_more (length (map assumed requires)) (length Q) (rw (length-map requires (λ x. assumed x)) (omega arith)) (checks_cost (map assumed requires) f)) (λ g _.
-    cost_more (length (map assumed axioms)) (length A) (rw (length-map axioms (λ x. assumed x)) (omega arith)) (checks_cost (map assumed axioms) g))))))))))
+    cost_more (cost_bind (symbols_cost v 0) (λ start hs.
+    cost_bind (values_cost A [] []) (λ axioms ha.
+    cost_bind (values_cost Q start []) (λ requires hq.
+    cost_bind (block_cost r start start b (omega arith)) (λ x hx.
+    cost_bind (forward_cost r start bs) (λ xs hxs.
+    cost_bind (backward_cost r bs xs 1 hxs) (λ fs _.
+    cost_bind (formula_cost r 1 xs fs x b true (symbols_short r xs bs hxs) hx) (λ f _.
+    cost_bind (cost_more {b = length Q} (checks_cost (map assumed requires) f) (rw (length-map requires (λ x. assumed x)) (omega arith))) (λ g _.
+    cost_more {b = length A} (checks_cost (map assumed axioms) g) (rw (length-map axioms (λ x. assumed x)) (omega arith))))))))))) (omega arith)
 
 -- A routine's formula takes at most T tells.
 pub at_most_t : (r : Routine) → Sound r → length (told r).1 ≤ T r

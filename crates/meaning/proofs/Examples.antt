@@ -1,7 +1,7 @@
 -- A world in which every reading fits, and the two examples.
-use Rattle.std.proofs.Common.{◌≡◌, ℕ, zero, suc, Bool, true, false, cond, not, ◌&&◌, ◌||◌, eqb, List, [], ◌∷◌, length, refl, arith}
-use mathlib.Core.Bool.{beq}
-use Rattle.std.proofs.lemmas.Bool.{false≢true}
+use Rattle.std.proofs.Common.{◌≡◌, ℕ, zero, suc, Bool, true, false, cond, not, ◌&&◌, ◌||◌, eqb, List, [], ◌∷◌, length, refl, sym, arith}
+use Rattle.std.specs.Bool.{beq}
+use Rattle.std.proofs.lemmas.Option.{none-some}
 use Rattle.language.specs.declared.ValueType.{ValueType}
 use Rattle.language.specs.Codes.{bool}
 use Rattle.world.specs.Worlds.{World, Reading, OfTypes}
@@ -10,7 +10,6 @@ use Rattle.meaning.specs.Routine.{leaf, Command, block, Typed, leaf_typed, Sound
 use Rattle.meaning.specs.Runs.{none_left, asserts_false}
 use Rattle.meaning.specs.Telling.{answer, ◌>>=◌, tell, layout, formula_value, symbol_types}
 use Rattle.meaning.specs.Examples.{just_one, fails, succeeds, AllFits, Examples}
-use Rattle.meaning.proofs.Alikes.{none_some}
 
 -- An operator on truth values.
 works : ℕ → ℕ → List Bool → Bool
@@ -25,8 +24,8 @@ beq_self false = refl
 
 beq_only : (a b : Bool) → beq a b ≡ true → a ≡ b
 beq_only true true e = refl
-beq_only true false e = absurd (false≢true e)
-beq_only false true e = absurd (false≢true e)
+beq_only true false e = sym e
+beq_only false true e = e
 beq_only false false e = refl
 
 -- Each type has the two truth values.
@@ -102,7 +101,7 @@ succeeds_value q = rw (q.world.false_is, q.world.true_is, q.world.and_is false t
 pub examples : (V : Type 0) → Examples V
 examples V = record {
   fails_sound = one_sound _ (falsity, tt);
-  fails_wrong = λ w. record { constants_typed = λ n t e. absurd (none_some e); axioms_true = none_left; start_typed = tt; requires_true = none_left; steps = asserts_false w.false_is };
+  fails_wrong = λ w. record { constants_typed = λ n t e. absurd (none-some _ e); axioms_true = none_left; start_typed = tt; requires_true = none_left; steps = asserts_false w.false_is };
   fails_false = fails_value;
   succeeds_sound = one_sound _ (falsity, (falsity, tt));
   succeeds_true = succeeds_value;

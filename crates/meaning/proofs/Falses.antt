@@ -1,6 +1,7 @@
 -- A false formula is a run that goes wrong.
 use Rattle.std.proofs.Common.{◌≡◌, ℕ, zero, suc, ◌+◌, ◌-◌, ◌<◌, ◌≤◌, Bool, true, false, not, ◌&&◌, ◌||◌, ◌⊎◌, List, [], ◌∷◌, ◌++◌, map, length, get_or, drop, set, sym, refl, ◌∙◌, subst, inl, inr, ⊎_elim, arith}
 use Rattle.std.proofs.lemmas.List.{append_assoc}
+use Rattle.std.proofs.lemmas.Option.{get_or_from_slice_get}
 use Rattle.std.proofs.lemmas.Bool.{true≢false}
 use Rattle.language.specs.Codes.{bool}
 use Rattle.world.specs.Worlds.{World, Reading, OfTypes}
@@ -10,7 +11,7 @@ use Rattle.meaning.specs.Runs.{wrong, Tested, none_left, this_false, this_true, 
 use Rattle.meaning.specs.Telling.{Check, tested, assumed, takes, layout, nowhere, place, symbols_at}
 use Rattle.meaning.proofs.Alikes.{alike_set, alike-length, counted_left, counted_right, length-counted}
 use Rattle.meaning.proofs.Passes.{holds, after, linked, joined, own_checks, formulas}
-use Rattle.meaning.proofs.Types.{get_or-nth, Bools, truly_false, truly_true, decided, entry_bools, expression_typed, arguments_typed, return_bools}
+use Rattle.meaning.proofs.Types.{Bools, truly_false, truly_true, decided, entry_bools, expression_typed, arguments_typed, return_bools}
 use Rattle.meaning.proofs.Calls.{taken, given, call_typed}
 use Rattle.meaning.proofs.Places.{place_block, target_reached}
 use Rattle.meaning.proofs.Fit.{FitsEach}
@@ -87,7 +88,7 @@ module _ {V : Type 0} (q : Reading V) (r : Routine) (S : Sound r) (C : HasConsta
       let i = implied (holds q.world (value q.world s [] e)) _ f in
       assumes (truly_true q.world _ i.0) (commands_false k l re L cs n s h.1 T M i.1)
   commands_false k l re L (havoc x ∷ cs) n s h T M f =
-      let b : q.world.belongs h.0.0 (q.symbol n) ≡ true = rw (get_or-nth (variables r) x h.0.0 bool h.0.1) at M.0 in
+      let b : q.world.belongs h.0.0 (q.symbol n) ≡ true = rw (get_or_from_slice_get (variables r) x h.0.0 bool h.0.1) at M.0 in
       havocs h.0.1 (q.symbol n) b (commands_false k l re L cs (suc n) (set s x (q.symbol n)) h.1 (alike_set _ (variables r) s x h.0.0 (q.symbol n) T h.0.1 b) M.1 f)
   commands_false k l re L (call p es xs ∷ cs) n s h T M f =
       let P = procedure r p in

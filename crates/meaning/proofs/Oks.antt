@@ -27,56 +27,58 @@ module _ {V : Type 0} (q : Reading V) where
   abbrev pub KnowsAll : List V → List Tell → List ℕ → Type 0
   KnowsAll vs s es = Alike (λ e v. Knows v s e) es vs
 
-  -- What is known stays known.
-  pub knows_ext : {s s' : List Tell} (e : ℕ) (v : V) → Extends s s' → Knows v s e → Knows v s' e
-  knows_ext e v unchanged k = k
-  knows_ext e v (extended {s'} t x) k =
-      let h = knows_ext e v x k in
-      let l : e < length s' = h.entry in
-      record { entry = omega arith; value = rw (ne_eqb e (length s') (λ z. omega arith)) h.value }
-
-  -- Of several too.
-  pub all_ext : {s s' : List Tell} (es : List ℕ) (vs : List V) → Extends s s' → KnowsAll vs s es → KnowsAll vs s' es
-  all_ext [] [] x h = tt
-  all_ext [] (v ∷ vs) x h = absurd h
-  all_ext (e ∷ es) [] x h = absurd h
-  all_ext (e ∷ es) (v ∷ vs) x h = (knows_ext e v x h.0, all_ext es vs x h.1)
-
   -- From the tells s the telling m only adds tells, keeps them lawful, and ends with Q.
   pub record Ok {A : Type 0} (s : List Tell) (m : Telling A) (Q : List Tell → A → Type 0) : Type 0 where
     pub grows : Extends s (m s).1
     pub lawful : Lawful q s → Lawful q (m s).1
     pub post : Q (m s).1 (m s).0
 
+module _ {V : Type 0} {q : Reading V} where
+  -- What is known stays known.
+  pub knows_ext : {s s' : List Tell} {e : ℕ} {v : V} → Extends s s' → Knows q v s e → Knows q v s' e
+  knows_ext unchanged k = k
+  knows_ext {e = e} (extended {s'} t x) k =
+      let h = knows_ext x k in
+      let l : e < length s' = h.entry in
+      record { entry = omega arith; value = rw (ne_eqb e (length s') (λ z. omega arith)) h.value }
+
   -- An answer.
-  pub ok_answer : {A : Type 0} {s : List Tell} {Q : List Tell → A → Type 0} (a : A) → Q s a → Ok s (answer a) Q
+  pub ok_answer : {A : Type 0} {s : List Tell} {Q : List Tell → A → Type 0} (a : A) → Q s a → Ok q s (answer a) Q
   unfolding answer
   ok_answer a h = record { grows = unchanged; lawful = λ l. l; post = h }
 
   -- One telling after another.
-  pub ok_bind : {A B : Type 0} {s : List Tell} {m : Telling A} {f : A → Telling B} {Q : List Tell → B → Type 0} (P : List Tell → A → Type 0) → Ok s m P → ((a : A) (s' : List Tell) → Extends s s' → P s' a → Ok s' (f a) Q) → Ok s (m >>= f) Q
+  pub ok_bind : {A B : Type 0} {s : List Tell} {m : Telling A} {f : A → Telling B} {P : List Tell → A → Type 0} {Q : List Tell → B → Type 0} → Ok q s m P → ((a : A) (s' : List Tell) → Extends s s' → P s' a → Ok q s' (f a) Q) → Ok q s (m >>= f) Q
   unfolding ◌>>=◌
-  ok_bind {s = s} {m = m} P x k =
+  ok_bind {s = s} {m = m} x k =
       let y = k (m s).0 (m s).1 x.grows x.post in
       record { grows = ext_trans x.grows y.grows; lawful = λ l. y.lawful (x.lawful l); post = y.post }
 
   -- A weaker end.
-  pub ok_weaken : {A : Type 0} {s : List Tell} {m : Telling A} (P : List Tell → A → Type 0) {Q : List Tell → A → Type 0} → Ok s m P → ((a : A) (s' : List Tell) → P s' a → Q s' a) → Ok s m Q
-  ok_weaken {s = s} {m = m} P x k = record { grows = x.grows; lawful = x.lawful; post = k (m s).0 (m s).1 x.post }
+  pub ok_weaken : {A : Type 0} {s : List Tell} {m : Telling A} {P : List Tell → A → Type 0} {Q : List Tell → A → Type 0} → Ok q s m P → ((a : A) (s' : List Tell) → P s' a → Q s' a) → Ok q s m Q
+  ok_weaken {s = s} {m = m} x k = record { grows = x.grows; lawful = x.lawful; post = k (m s).0 (m s).1 x.post }
 
-  known_values : (s : List Tell) (es : List ℕ) (vs : List V) → KnowsAll vs s es → map (told_value q s) es ≡ vs
+module _ {V : Type 0} (q : Reading V) where
+  -- Of several too.
+  pub all_ext : {s s' : List Tell} (es : List ℕ) (vs : List V) → Extends s s' → KnowsAll q vs s es → KnowsAll q vs s' es
+  all_ext [] [] x h = tt
+  all_ext [] (v ∷ vs) x h = absurd h
+  all_ext (e ∷ es) [] x h = absurd h
+  all_ext (e ∷ es) (v ∷ vs) x h = (knows_ext x h.0, all_ext es vs x h.1)
+
+  known_values : (s : List Tell) (es : List ℕ) (vs : List V) → KnowsAll q vs s es → map (told_value q s) es ≡ vs
   known_values s [] [] h = refl
   known_values s [] (v ∷ vs) h = absurd h
   known_values s (e ∷ es) [] h = absurd h
   known_values s (e ∷ es) (v ∷ vs) h = rw (h.0.value, known_values s es vs h.1)
 
-  known_earlier : (s : List Tell) (es : List ℕ) (vs : List V) → KnowsAll vs s es → AllByRecursion (λ e. e < length s) es
+  known_earlier : (s : List Tell) (es : List ℕ) (vs : List V) → KnowsAll q vs s es → AllByRecursion (λ e. e < length s) es
   known_earlier s [] vs h = tt
   known_earlier s (e ∷ es) [] h = absurd h
   known_earlier s (e ∷ es) (v ∷ vs) h = (h.0.entry, known_earlier s es vs h.1)
 
   -- One tell, which the reading binds.
-  pub ok_tell : {s : List Tell} (c a : ℕ) (es : List ℕ) (vs : List V) → arity c ≡ Some (length es) → KnowsAll vs s es → Binds q c vs → Ok s (tell c a es) (Knows (meant q c a vs))
+  pub ok_tell : {s : List Tell} (c a : ℕ) (es : List ℕ) (vs : List V) → arity c ≡ Some (length es) → KnowsAll q vs s es → Binds q c vs → Ok q s (tell c a es) (Knows q (meant q c a vs))
   unfolding tell
   ok_tell {s} c a es vs n h b =
       record {

@@ -1,6 +1,7 @@
 -- Every run has a reading that fits and shows it.
 use Rattle.std.proofs.Common.{◌≡◌, ℕ, zero, suc, ◌+◌, ◌<◌, Bool, true, false, cond, List, [], ◌∷◌, ◌++◌, length, get_or, drop, sym, refl, ap, ◌∙◌, subst, le_of_suc-le-suc, not-suc-le-zero, add-zero, arith}
 use Rattle.std.proofs.lemmas.List.{append-nil, append_assoc, length-append, get_or_at, nil_from_length}
+use Rattle.std.proofs.lemmas.Option.{get_or_from_slice_get}
 use Rattle.std.proofs.lemmas.Bool.{false≢true}
 use Rattle.language.specs.declared.ValueType.{ValueType}
 use Rattle.language.specs.Codes.{bool}
@@ -11,7 +12,7 @@ use Rattle.meaning.specs.Runs.{Ending, wrong, Run, assigns, asserts, asserts_fal
 use Rattle.meaning.specs.Telling.{takes, Placed, places, layout, nowhere, place, symbols_at, symbol_types}
 use Rattle.meaning.specs.Promise.{Shows, HasReading, TrueIsRight}
 use Rattle.meaning.proofs.Alikes.{alike_set, alike-put, alike-append, alike-length}
-use Rattle.meaning.proofs.Types.{get_or-nth, modified_places, expression_typed}
+use Rattle.meaning.proofs.Types.{modified_places, expression_typed}
 use Rattle.meaning.proofs.Places.{target_reached, first_reached, first_zero}
 use Rattle.meaning.proofs.Wrongs.{later_target}
 use Rattle.meaning.proofs.Theorem.{wrong_is_false}
@@ -137,7 +138,7 @@ module _ {V : Type 0} (w : World V) where
         let H = shown d (p ++ (v ∷ [])) (suc n) (rw (length-append p (v ∷ [])) (omega arith)) l re (omega arith) h.1 (alike_set _ (variables r) s x t v T g b) in
         record {
           rest = v ∷ H.rest;
-          typed = (rw (get_or-nth (variables r) x t bool g) b, H.typed);
+          typed = (rw (get_or_from_slice_get (variables r) x t bool g) b, H.typed);
           shows = (get_or_at p v H.rest (w.truth true) n a, subst (λ (u : List V). Shows (having u) r (suc n) d) (append_assoc p (v ∷ []) H.rest) H.shows);
         }
     shown (calls {k = k} {p = q} {xs = xs} {cs = cs} {s = s} g gs outs G O E d) p n a l re e h T =

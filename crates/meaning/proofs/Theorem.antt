@@ -1,7 +1,6 @@
 -- The promises on runs.
 use Rattle.std.proofs.Common.{◌≡◌, ℕ, suc, ◌+◌, ◌<◌, Bool, true, false, List, [], ◌∷◌, ◌++◌, map, length, get_or, drop, sym, refl, ap, ◌∙◌, subst, zero-add, arith}
 use Rattle.std.proofs.lemmas.List.{append-nil}
-use Rattle.language.specs.Lists.{Alike}
 use Rattle.world.specs.Worlds.{World, Reading, OfTypes}
 use Rattle.meaning.specs.Routine.{Block, Routine, block, variables, values, SoundCommands, Sound}
 use Rattle.meaning.specs.Runs.{wrong, Tested, Run, HasConstants, RunOf}
@@ -14,9 +13,9 @@ use Rattle.meaning.proofs.Places.{place_block, layout-length, first_reached, fir
 use Rattle.meaning.proofs.Fit.{FitsEach, fits_each}
 use Rattle.meaning.proofs.Wrongs.{assumes_pass, here_formula, formula_of, wrong_false}
 use Rattle.meaning.proofs.Falses.{assumes_true, false_wrong}
-use Rattle.meaning.proofs.Oks.{ext_trans, Knows, KnowsAll, all_ext, Ok, ok_bind}
+use Rattle.meaning.proofs.Oks.{ext_trans, Knows, all_ext, Ok, ok_bind}
 use Rattle.meaning.proofs.Tells.{finds, finds_none, symbols_ok, clauses_ok, assumes_checked}
-use Rattle.meaning.proofs.Backs.{checks_ok, BegunOk, begun_ext, block_ok, Ready, MaybeBegun, all_maybe_ext, forward_ok, Formed, formula_ok, backward_ok}
+use Rattle.meaning.proofs.Backs.{checks_ok, begun_ext, block_ok, Ready, all_maybe_ext, forward_ok, formula_ok, backward_ok}
 
 some_layout : (r : Routine) → Sound r → layout r ≡ [] → ⊥
 some_layout r S e = omega (arith, ap length e, layout-length r, S.some_block)
@@ -71,17 +70,17 @@ module _ {V : Type 0} (q : Reading V) (r : Routine) (S : Sound r) (C : HasConsta
       let A = clauses_bools w r.constants [] [] [] [] C (looks_none w []) (looks_none w []) r.axioms S.axioms_typed in
       let Q = clauses_bools w r.constants (variables r) [] start_v [] C (looks w (variables r) start_v start_t) (looks_none w []) r.own.requires S.requires_typed in
       let n0 : b.first ≡ 0 = ap (λ (p : Placed). p.first) (sym pb) ∙ first_zero r in
-      ok_bind q (KnowsAll q start_v) (symbols_ok q (length (variables r)) [] 0) (λ start s₁ x₁ k₁.
-      ok_bind q (KnowsAll q axioms_v) (clauses_ok q r.constants [] [] [] [] [] [] C (looks_none w []) (looks_none w []) r.axioms S.axioms_typed s₁ (finds_none q s₁ [] []) (finds_none q s₁ [] [])) (λ axioms s₂ x₂ k₂.
+      ok_bind (symbols_ok q (length (variables r)) [] 0) (λ start s₁ x₁ k₁.
+      ok_bind (clauses_ok q r.constants [] [] [] [] [] [] C (looks_none w []) (looks_none w []) r.axioms S.axioms_typed s₁ (finds_none q s₁ [] []) (finds_none q s₁ [] [])) (λ axioms s₂ x₂ k₂.
       let start₂ = all_ext q start start_v x₂ k₁ in
-      ok_bind q (KnowsAll q requires_v) (clauses_ok q r.constants (variables r) [] start [] start_v [] C (looks w (variables r) start_v start_t) (looks_none w []) r.own.requires S.requires_typed s₂ (finds q s₂ (variables r) start start_v start_t start₂) (finds_none q s₂ [] [])) (λ requires s₃ x₃ k₃.
+      ok_bind (clauses_ok q r.constants (variables r) [] start [] start_v [] C (looks w (variables r) start_v start_t) (looks_none w []) r.own.requires S.requires_typed s₂ (finds q s₂ (variables r) start start_v start_t start₂) (finds_none q s₂ [] [])) (λ requires s₃ x₃ k₃.
       let start₃ = all_ext q start start_v x₃ start₂ in
-      ok_bind q (λ s' x. BegunOk q r S C start_v start_t s' x b start_v) (block_ok q r S C start_v start_t b start start_v start R.0 start_t R.2 s₃ start₃ start₃) (λ x s₄ x₄ k₄.
-      ok_bind q (λ s' xs. Alike (MaybeBegun q r S C start_v start_t s') xs bs) (forward_ok q r S C start_v start_t bs (λ j. subst (λ (l : List Placed). Ready q r S C start_v start_t (get_or l (suc j) nowhere)) e (ready (suc j))) start s₄ (all_ext q start start_v x₄ start₃)) (λ xs s₅ x₅ k₅.
-      ok_bind q (λ s' fs. Formed q r S C start_v start_t s' 1 fs bs) (backward_ok q r S C start_v start_t bs 1 xs (drop_next 0 (layout r) b bs e) s₅ k₅) (λ fs s₆ x₆ k₆.
-      ok_bind q (Knows q (w.truth (first_formula b bs))) (formula_ok q r S C start_v start_t 0 b bs e re x start_v xs fs s₆ (begun_ext q r S C start_v start_t x b start_v (ext_trans x₅ x₆) k₄) (all_maybe_ext q r S C start_v start_t xs bs x₆ k₅) k₆) (λ f s₇ x₇ k₇.
+      ok_bind (block_ok q r S C start_v start_t b start start_v start R.0 start_t R.2 s₃ start₃ start₃) (λ x s₄ x₄ k₄.
+      ok_bind (forward_ok q r S C start_v start_t bs (λ j. subst (λ (l : List Placed). Ready q r S C start_v start_t (get_or l (suc j) nowhere)) e (ready (suc j))) start s₄ (all_ext q start start_v x₄ start₃)) (λ xs s₅ x₅ k₅.
+      ok_bind (backward_ok q r S C start_v start_t bs 1 xs (drop_next 0 (layout r) b bs e) s₅ k₅) (λ fs s₆ x₆ k₆.
+      ok_bind (formula_ok q r S C start_v start_t 0 b bs e re x start_v xs fs s₆ (begun_ext q r S C start_v start_t x b start_v (ext_trans x₅ x₆) k₄) (all_maybe_ext q r S C start_v start_t xs bs x₆ k₅) k₆) (λ f s₇ x₇ k₇.
       let to₇ = ext_trans x₄ (ext_trans x₅ (ext_trans x₆ x₇)) in
-      ok_bind q (Knows q (w.truth (after w (map assumed requires_v) (first_formula b bs)))) (checks_ok q (map assumed requires) (map assumed requires_v) f _ s₇ (assumes_checked q s₇ requires requires_v (all_ext q requires requires_v to₇ k₃) Q) k₇) (λ g s₈ x₈ k₈.
+      ok_bind (checks_ok q (map assumed requires) (map assumed requires_v) f _ s₇ (assumes_checked q s₇ requires requires_v (all_ext q requires requires_v to₇ k₃) Q) k₇) (λ g s₈ x₈ k₈.
       checks_ok q (map assumed axioms) (map assumed axioms_v) g _ s₈ (assumes_checked q s₈ axioms axioms_v (all_ext q axioms axioms_v (ext_trans x₃ (ext_trans to₇ x₈)) k₂) A) k₈))))))))
 
   -- The first block's formula is that of block 0.

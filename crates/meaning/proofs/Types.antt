@@ -1,27 +1,21 @@
 -- Rightly typed expressions have values of their types.
 use Rattle.std.proofs.Common.{◌≡◌, ℕ, zero, suc, ◌<◌, Bool, true, false, ◌⊎◌, List, [], ◌∷◌, ◌++◌, map, length, get_or, take, Some, sym, refl, ◌∙◌, inl, inr}
 use Rattle.std.specs.List.{AllByRecursion, slice_get}
-use Rattle.std.proofs.lemmas.Option.{slice_get-get_or}
+use Rattle.std.proofs.lemmas.Option.{none-some, slice_get-get_or}
 use Rattle.std.proofs.lemmas.Bool.{true≢false}
 use Rattle.language.specs.declared.ValueType.{ValueType}
 use Rattle.language.specs.Codes.{bool}
 use Rattle.world.specs.Worlds.{World, OfTypes}
 use Rattle.meaning.specs.Routine.{Expression, Procedure, Routine, variables, view, value, values, Typed, leaf_typed, constant_typed, variable_typed, before_typed, one_typed, two_typed, AllTyped, Clauses, Places, SoundProcedure, Sound}
 use Rattle.meaning.specs.Runs.{Tested, none_left, this_false, this_true, on_entry, on_exit}
-use Rattle.meaning.proofs.Alikes.{none_some, alike_at, alike-append, alike-take}
+use Rattle.meaning.proofs.Alikes.{alike_at, alike-append, alike-take}
 use Rattle.meaning.proofs.Passes.{holds}
 
 -- A place of the first list is the same place of both.
 pub nth_left : {A : Type 0} (ts us : List A) (x : ℕ) (t : A) → slice_get ts x ≡ Some t → slice_get (ts ++ us) x ≡ Some t
-nth_left [] us x t e = absurd (none_some e)
+nth_left [] us x t e = absurd (none-some _ e)
 nth_left (u ∷ ts) us zero t e = e
 nth_left (u ∷ ts) us (suc x) t e = nth_left ts us x t e
-
--- What is found at a place is read there.
-pub get_or-nth : {A : Type 0} (ts : List A) (x : ℕ) (t d : A) → slice_get ts x ≡ Some t → get_or ts x d ≡ t
-get_or-nth [] x t d e = absurd (none_some e)
-get_or-nth (u ∷ ts) zero t d e = cc
-get_or-nth (u ∷ ts) (suc x) t d e = get_or-nth ts x t d e
 
 -- The modified globals are at their places among all variables.
 pub modified_places : (ts us : List ValueType) (gs : List ℕ) → AllByRecursion (λ g. g < length ts) gs → Places (ts ++ us) gs (map (λ g. get_or ts g bool) gs)
@@ -43,7 +37,7 @@ module _ {V : Type 0} (w : World V) where
 
   -- Where there is no variable, anything is.
   pub looks_none : (s : List V) → Looks [] s
-  looks_none s x t e = absurd (none_some e)
+  looks_none s x t e = absurd (none-some _ e)
 
   -- So is the front of a state.
   pub looks_left : (ts us : List ValueType) (s : List V) → OfTypes w (ts ++ us) s → Looks ts s

@@ -1,6 +1,6 @@
 -- A run that goes wrong makes the formula false, in each reading that shows it.
 use Rattle.std.proofs.Common.{◌≡◌, ℕ, suc, ◌+◌, ◌-◌, ◌<◌, Bool, true, false, List, [], ◌∷◌, ◌++◌, map, length, get_or, drop, set, sym, refl, ap, ◌∙◌, subst, arith}
-use mathlib.Core.Bool.{and-false}
+use Rattle.std.proofs.Math.Bool.{and-false}
 use Rattle.std.proofs.lemmas.List.{append-nil, append_assoc, length-map, get_or-drop}
 use Rattle.world.specs.Worlds.{World, Reading}
 use Rattle.meaning.specs.Lists.{In, here, later}

@@ -17,31 +17,28 @@ use records::lists::{DeclarationKind, HeldBook};
 pub fn is_name(number: u32) -> bool
     ensures { result ≡ is_name number }
 {
-    number >= 1 && number <= 65535
+    matches!(number, 1..=65535)
+}
+
+/// Is this number a type?
+fn is_type(number: u32) -> bool
+    ensures { result ≡ is_type number }
+{
+    matches!(number, 1..=4)
 }
 
 /// How many of these numbers come before the first that is no name.
 pub fn leading_names(numbers: &[u32]) -> usize
     ensures { result ≡ prefix_len is_name numbers.now }
 {
-    for (i, number) in numbers.iter().enumerate() {
-        if !is_name(*number) {
-            return i;
-        }
-    }
-    numbers.len()
+    numbers.iter().take_while(|n| is_name(**n)).count()
 }
 
 /// How many of these numbers come before the first that is no type.
 pub fn leading_types(numbers: &[u32]) -> usize
     ensures { result ≡ prefix_len is_type numbers.now }
 {
-    for (i, number) in numbers.iter().enumerate() {
-        if *number < 1 || *number > 4 {
-            return i;
-        }
-    }
-    numbers.len()
+    numbers.iter().take_while(|n| is_type(**n)).count()
 }
 
 /// Is this entry a name with 0 on the right?
@@ -55,28 +52,21 @@ fn is_bare_name(left: u32, right: u32) -> bool
 pub fn leading_bare_names(left: &[u32], right: &[u32]) -> usize
     ensures { result ≡ prefix_len is_bare_name (paired left.now right.now) }
 {
-    let count = left.len().min(right.len());
-    for i in 0..count {
-        if !is_bare_name(left[i], right[i]) {
-            return i;
-        }
-    }
-    count
+    left.iter()
+        .zip(right)
+        .take_while(|(left, right)| is_bare_name(**left, **right))
+        .count()
 }
 
 /// Is this number among these?
 fn is_member(numbers: &[u32], number: u32) -> bool
     ensures { result ≡ member number numbers.now }
 {
-    for x in numbers {
-        if *x == number {
-            return true;
-        }
-    }
-    false
+    numbers.contains(&number)
 }
 
 /// Some names of a book.
+// An enum and no closure, since contracts name its entries: what a closure answers they could state only call by call.
 #[derive(Clone, Copy)]
 pub enum NameGroup {
     Nothing,
@@ -95,6 +85,7 @@ fn is_declared(book: &HeldBook, kind: DeclarationKind, name: u32) -> bool
 }
 
 /// Is this a constant or a global?
+#[tactic(auto, using(crate::proofs::Leads::has_append))]
 fn is_value(book: &HeldBook, name: u32) -> bool
     ensures { result ≡ has name (values (book_of book.now)) }
 {
@@ -119,12 +110,7 @@ impl NameGroup {
     pub fn leading_members(self, book: &HeldBook, names: &[u32]) -> usize
         ensures { result ≡ prefix_len (λ n. has n (names_in self book.now)) names.now }
     {
-        for (i, name) in names.iter().enumerate() {
-            if !self.has(book, *name) {
-                return i;
-            }
-        }
-        names.len()
+        names.iter().take_while(|n| self.has(book, **n)).count()
     }
 
     /// Is this one of the group's names, or among those before it?
@@ -135,11 +121,12 @@ impl NameGroup {
     }
 
     /// How many of these come before the first that is one of the group's names, or that stands among those before it.
+    #[tactic(auto, using(crate::proofs::Leads::fresh_stops, crate::proofs::Leads::fresh_goes, crate::proofs::Leads::fresh_ends))]
     pub fn leading_fresh(self, book: &HeldBook, names: &[u32]) -> usize
         ensures { result ≡ fresh (names_in self book.now) [] names.now }
     {
-        for i in 0..names.len() {
-            if self.repeats(book, &names[0..i], names[i]) {
+        for (i, name) in names.iter().enumerate() {
+            if self.repeats(book, &names[..i], *name) {
                 return i;
             }
         }

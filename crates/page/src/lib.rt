@@ -1,9 +1,7 @@
 //! The page reader: a page of numbers taken apart where it lies, with nothing copied.
 #![tactic(auto)]
 
-ghost use Rattle.page.specs.Pages.{Whole, page_of, shown};
-ghost use Rattle.std.specs.Prelude.{◌≡◌, IfSome};
-ghost use Rattle.std.specs.Option.{option_map};
+ghost use Rattle.std.specs.Prelude.{◌≡◌, ◌+◌, ◌≤◌, length};
 
 /// The most entries that a page may have.
 pub const MOST_ENTRIES: usize = 1024;
@@ -29,13 +27,18 @@ pub struct Page<'a> {
     pub b: u32,
     pub left: Part<'a>,
     pub right: Part<'a>,
+    pub ghost lefts: { length left.numbers.now ≡ a + b },
+    pub ghost rights: { length right.numbers.now ≡ a + b },
+    pub ghost few: { a + b ≤ 1024 },
 }
 
 impl<'a> Page<'a> {
+    ghost use Rattle.page.specs.Pages.{page_of, shown};
+    ghost use Rattle.std.specs.Option.{option_map};
+
     /// The page in these numbers, or `None` where they do not have the form of one.
     pub fn read(numbers: &'a [u32]) -> Option<Page<'a>>
-        ensures is { option_map shown result ≡ page_of numbers.now }
-        ensures whole { IfSome result Whole }
+        ensures { option_map shown result ≡ page_of numbers.now }
     {
         let [a, b, rest @ ..] = numbers else {
             return None;

@@ -1,12 +1,12 @@
 -- Laws of look-ups.
-use Rattle.std.proofs.Common.{◌≡◌, ℕ, ◌+◌, ◌-◌, ◌<◌, ◌≤◌, min, Bool, true, false, cond, eqb, ◌⊎◌, List, [], ◌∷◌, ◌++◌, map, length, get_or, take, drop, Some, None, Option, sym, refl, ap, ◌∙◌, inl, inr, arith}
+use Rattle.std.proofs.Common.{◌≡◌, ℕ, ◌+◌, ◌-◌, ◌<◌, ◌≤◌, min, Bool, true, false, cond, ◌||◌, is_some, ◌==◌, eqb, ◌⊎◌, List, [], ◌∷◌, ◌++◌, map, length, get_or, take, drop, Some, None, Option, sym, refl, ap, ◌∙◌, inl, inr, arith}
 use Rattle.std.proofs.lemmas.List.{at_drop_all, at_drop_more, drop_all, length-drop, take_all}
 use Rattle.std.proofs.lemmas.Bool.{cases_lt}
-use Rattle.std.proofs.lemmas.Bool.Decides.{nat_tests}
-use Rattle.std.specs.List.{flat_map}
+use Rattle.std.specs.List.{enumerate_from, filter, find, flat_map, list_any}
+use Rattle.std.specs.Option.{option_map}
 use Rattle.page.specs.declared.Entry.{Entry}
 use Rattle.language.specs.declared.ValueType.{ValueType}
-use Rattle.language.specs.Expressions.{type_of}
+use Rattle.language.specs.Expressions.{has, type_of}
 use Rattle.records.specs.declared.lists.Clause.{Clause}
 use Rattle.records.specs.declared.lists.ClauseKind.{ClauseKind}
 use Rattle.records.specs.declared.lists.Declaration.{Declaration}
@@ -15,7 +15,6 @@ use Rattle.records.specs.Book.{Declared, Numbered, belongs, numbered_from, proce
 use Rattle.records.specs.Found.{or_else}
 use Rattle.records.specs.Held.{declared_in, stated_in}
 use Rattle.records.specs.Kinds.{same_declaration}
-use Rattle.records.proofs.Steps.{no_clause, no_declaration}
 
 -- A part cut at the ends of the list is what `take` and `drop` leave.
 pub part_is : {X : Type 0} (xs : List X) (start count from to : ℕ) → from ≡ min (length xs) start → to ≡ min (length xs) (start + count)
@@ -63,46 +62,74 @@ module _ {X Y : Type 0} (f : Y → List Entry) (g : X → Y) (name : ℕ) (xs : 
   pub look_all : length xs ≤ i → None ≡ whole
   look_all h = sym (at_drop_all (λ l. type_of name (flat_map f (map g l))) xs i h) ∙ inv
 
--- A count of clauses that has come to the one at i, n so far; `whole` is what it is to answer.
-module _ (kind : ClauseKind) (p : ℕ) (es : List Entry) (cs : List Clause) (i n whole : ℕ)
-    (inv : n + length (stated_as kind p (map (stated_in es) (drop i cs))) ≡ whole) where
-  abbrev clause : Clause
-  clause = get_or cs i no_clause
+pub option_map_twice : {X Y Z : Type 0} (f : Y → Z) (g : X → Y) (o : Option X) → option_map (λ x. f (g x)) o ≡ option_map f (option_map g o)
+option_map_twice f g None = refl
+option_map_twice f g (Some x) = refl
 
-  counted : i < length cs → n + length (stated_as kind p (map (stated_in es) (clause ∷ drop (i + 1) cs))) ≡ whole
-  counted h = ap (λ (k : ℕ). n + k) (sym (at_drop_more (λ l. length (stated_as kind p (map (stated_in es) l))) cs i no_clause h)) ∙ inv
+-- The look-up of a type is the search for the first entry of that name.
+abbrev pub found_type : Entry → ValueType
+found_type e = record { number = e.right }
 
-  pub count_yes : i < length cs → true ≡ belongs kind p clause.kind clause.procedure → (m : ℕ) → m ≡ n + 1
-      → m + length (stated_as kind p (map (stated_in es) (drop (i + 1) cs))) ≡ whole
-  count_yes h e m k = let c = counted h in grind (arith, nat_tests)
+pub type_found : (name : ℕ) (es : List Entry) → option_map found_type (find (λ e. e.left == name) es) ≡ type_of name es
+type_found name [] = refl
+type_found name (e ∷ es) = by (e.left == name) (type_found name es)
+  where
+    by : (b : Bool) → option_map found_type (find (λ e. e.left == name) es) ≡ type_of name es
+        → option_map found_type (cond b (Some e) (find (λ e. e.left == name) es)) ≡ cond b (Some (found_type e)) (type_of name es)
+    by true h = refl
+    by false h = h
 
-  pub count_no : i < length cs → false ≡ belongs kind p clause.kind clause.procedure → (m : ℕ) → m ≡ n
-      → m + length (stated_as kind p (map (stated_in es) (drop (i + 1) cs))) ≡ whole
-  count_no h e m k = let c = counted h in grind (arith, nat_tests)
+-- Joined lists have a name where one of them has it.
+pub has_any : {X Y : Type 0} (f : Y → List Entry) (g : X → Y) (name : ℕ) (xs : List X)
+    → list_any (λ x. has name (f (g x))) xs ≡ has name (flat_map f (map g xs))
+has_any f g name [] = refl
+has_any f g name (x ∷ xs) =
+    ap (λ (b : Bool). has name (f (g x)) || b) (has_any f g name xs)
+    ∙ (by (type_of name (f (g x))) (type_of name (flat_map f (map g xs))) ∙ sym (ap is_some (type_of-append name (f (g x)) (flat_map f (map g xs)))))
+  where
+    by : (a b : Option ValueType) → (is_some a || is_some b) ≡ is_some (or_else a b)
+    by None b = refl
+    by (Some t) b = refl
 
--- A search for a procedure that has come to the declaration at i, with so many procedures before it; `whole` is what it is to answer.
-module _ (name : ℕ) (es : List Entry) (ds : List Declaration) (i number : ℕ) (whole : Option Numbered)
-    (inv : numbered_from number name (procedures_in (map (declared_in es) (drop i ds))) ≡ whole) where
-  abbrev declaration : Declaration
-  declaration = get_or ds i no_declaration
+-- As many clauses belong there as the book has.
+pub stated_filter : (kind : ClauseKind) (p : ℕ) (es : List Entry) (cs : List Clause)
+    → length (filter (λ (c : Clause). belongs kind p c.kind c.procedure) cs) ≡ length (stated_as kind p (map (stated_in es) cs))
+stated_filter kind p es [] = refl
+stated_filter kind p es (c ∷ cs) = by (belongs kind p c.kind c.procedure) (stated_filter kind p es cs)
+  where
+    by : (b : Bool) → length (filter (λ (c : Clause). belongs kind p c.kind c.procedure) cs) ≡ length (stated_as kind p (map (stated_in es) cs))
+        → length (cond b (c ∷ filter (λ (c : Clause). belongs kind p c.kind c.procedure) cs) (filter (λ (c : Clause). belongs kind p c.kind c.procedure) cs))
+        ≡ length (cond b (stated_in es c ∷ stated_as kind p (map (stated_in es) cs)) (stated_as kind p (map (stated_in es) cs)))
+    by true h = omega (arith, h)
+    by false h = h
 
-  searched : i < length ds → numbered_from number name (procedures_in (map (declared_in es) (declaration ∷ drop (i + 1) ds))) ≡ whole
-  searched h = sym (at_drop_more (λ l. numbered_from number name (procedures_in (map (declared_in es) l))) ds i no_declaration h) ∙ inv
+-- The first procedure of a name among the procedures, which are numbered from n on.
+abbrev pub numbered_at : List Entry → ℕ × Declaration → Numbered
+numbered_at es p = record { number = p.0; ins = p.1.a; parameters = take (p.1.a + p.1.b) (drop p.1.start es) }
 
-  pub procedure_found : i < length ds → true ≡ same_declaration declaration.kind Procedure → declaration.name ≡ name
-      → Some (record { number = number; ins = declaration.a; parameters = take (declaration.a + declaration.b) (drop declaration.start es) }) ≡ whole
-  procedure_found h e n = let s = searched h in grind (arith, nat_tests)
+abbrev pub is_procedure : Declaration → Bool
+is_procedure d = same_declaration d.kind Procedure
 
-  pub procedure_passed : i < length ds → true ≡ same_declaration declaration.kind Procedure → (declaration.name ≡ name → ⊥) → (m : ℕ) → m ≡ number + 1
-      → numbered_from m name (procedures_in (map (declared_in es) (drop (i + 1) ds))) ≡ whole
-  procedure_passed h e n m k = let s = searched h in grind (arith, nat_tests)
+pub procedure_found : (name : ℕ) (es : List Entry) (n : ℕ) (ds : List Declaration)
+    → option_map (numbered_at es) (find (λ p. p.1.name == name) (enumerate_from n (filter is_procedure ds))) ≡ numbered_from n name (procedures_in (map (declared_in es) ds))
+procedure_found name es n [] = refl
+procedure_found name es n (d ∷ ds) = by (is_procedure d) (procedure_found name es n ds) (procedure_found name es (n + 1) ds)
+  where
+    rest : ℕ → Option (ℕ × Declaration)
+    rest m = find (λ p. p.1.name == name) (enumerate_from m (filter is_procedure ds))
 
-  pub procedure_other : i < length ds → false ≡ same_declaration declaration.kind Procedure → (m : ℕ) → m ≡ number
-      → numbered_from m name (procedures_in (map (declared_in es) (drop (i + 1) ds))) ≡ whole
-  procedure_other h e m k = let s = searched h in grind (arith, nat_tests)
+    named : (b : Bool) → option_map (numbered_at es) (rest (n + 1)) ≡ numbered_from (n + 1) name (procedures_in (map (declared_in es) ds))
+        → option_map (numbered_at es) (cond b (Some (n, d)) (rest (n + 1)))
+        ≡ cond b (Some (numbered_at es (n, d))) (numbered_from (n + 1) name (procedures_in (map (declared_in es) ds)))
+    named true h = refl
+    named false h = h
 
-  pub procedure_none : length ds ≤ i → None ≡ whole
-  procedure_none h = sym (at_drop_all (λ l. numbered_from number name (procedures_in (map (declared_in es) l))) ds i h) ∙ inv
+    by : (b : Bool) → option_map (numbered_at es) (rest n) ≡ numbered_from n name (procedures_in (map (declared_in es) ds))
+        → option_map (numbered_at es) (rest (n + 1)) ≡ numbered_from (n + 1) name (procedures_in (map (declared_in es) ds))
+        → option_map (numbered_at es) (find (λ p. p.1.name == name) (enumerate_from n (cond b (d ∷ filter is_procedure ds) (filter is_procedure ds))))
+        ≡ numbered_from n name (cond b (declared_in es d ∷ procedures_in (map (declared_in es) ds)) (procedures_in (map (declared_in es) ds)))
+    by true here next = named (d.name == name) next
+    by false here next = here
 
 -- What the first list has is found there; else it is what the second has.
 pub type_of_first : (name : ℕ) (xs ys : List Entry) (t : ValueType) → Some t ≡ type_of name xs → Some t ≡ type_of name (xs ++ ys)

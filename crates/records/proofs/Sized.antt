@@ -1,5 +1,5 @@
 -- What the guard finds is what the lists hold.
-use Rattle.std.proofs.Common.{◌≡◌, ℕ, ◌+◌, ◌≤◌, Bool, true, false, cond, ◌&&◌, leb, List, [], ◌∷◌, map, length, take, drop, Some, None, sym, refl, ap, ◌∙◌, zero-add, arith}
+use Rattle.std.proofs.Common.{◌≡◌, ℕ, ◌+◌, Bool, true, false, cond, ◌&&◌, leb, List, [], ◌∷◌, map, length, take, drop, Some, None, sym, refl, ap, ◌∙◌, zero-add, arith}
 use Rattle.std.proofs.lemmas.List.{length-append, length-drop, length-take-le}
 use Rattle.std.proofs.lemmas.Bool.{and_parts}
 use Rattle.std.proofs.lemmas.Bool.Decides.{nat_tests}
@@ -13,7 +13,6 @@ use Rattle.records.specs.Kinds.{same_declaration}
 use Rattle.records.specs.Book.{declared_as, procedures_in, constants, globals, procedures}
 use Rattle.records.specs.Held.{Stored, book_in, clauses_fit, declaration_fits, declarations_fit, declared_in, parameters_fit, sound, sound_book, within_limits}
 use Rattle.records.specs.Sizes.{adding, few, none, procedure_count, size_of, surveyed}
-use Rattle.records.proofs.Steps.{few_few}
 
 -- The entries of records that fit are as many as the records say.
 pub length-declared_as : (es : List Entry) (kind : DeclarationKind) (ds : List Declaration) → declarations_fit (length es) ds ≡ true
@@ -92,15 +91,12 @@ module _ (es : List Entry) (cs : List Clause) (ds : List Declaration) where
   -- Those totals are the book's, and within the limits.
   pub counts : (t : Totals) → Some t ≡ surveyed (length es) none ds
       → (t.constants ≡ length (constants (book_in these))) × (t.globals ≡ length (globals (book_in these))) × (t.procedures ≡ length (procedures (book_in these)))
-      × (t.constants ≤ 256) × (t.globals ≤ 64) × (t.procedures ≤ 64)
+      × (few t ≡ true)
   counts t e =
       let s = surveys t e in
-      let p = and_parts (declarations_fit (length es) ds) (few (adding none ds)) s.fits in
-      let f = few_few t (sym (ap few s.totals ∙ p.1)) in (
+      let p = and_parts (declarations_fit (length es) ds) (few (adding none ds)) s.fits in (
         ap (λ (u : Totals). u.constants) s.totals ∙ zero-add (size_of Constants ds) ∙ sym (length-declared_as es Constants ds p.0),
         ap (λ (u : Totals). u.globals) s.totals ∙ zero-add (size_of Globals ds) ∙ sym (length-declared_as es Globals ds p.0),
         count-is t s ∙ sym (length-procedures_in es ds),
-        f.constants,
-        f.globals,
-        f.procedures,
+        ap few s.totals ∙ p.1,
       )

@@ -1,5 +1,5 @@
 -- What lists of records hold.
-use Rattle.std.specs.Prelude.{◌≡◌, ℕ, ◌+◌, ◌≤◌, Bool, true, false, cond, not, ◌&&◌, ◌||◌, List, [], ◌∷◌, ◌++◌, map, length, take, drop, Some, None, Option, nat_le, nat_lt}
+use Rattle.std.specs.Prelude.{◌≡◌, ℕ, ◌+◌, Bool, true, false, cond, not, ◌&&◌, ◌||◌, List, [], ◌∷◌, ◌++◌, map, length, take, drop, Some, None, Option, nat_le, nat_lt}
 use Rattle.page.specs.declared.Entry.{Entry}
 use Rattle.records.specs.declared.lists.Clause.{Clause}
 use Rattle.records.specs.declared.lists.ClauseKind.{ClauseKind}
@@ -110,12 +110,3 @@ sound_book st = cond (sound st) (Some (book_in st)) None
 -- The book that the lists hold; they hold none where a list is shorter than the counts, either.
 abbrev pub held_in : Counts → Stored → Option Book
 held_in n st = cond (long_enough n st) (sound_book (in_use n st)) None
-
--- The totals are those of the book.
-pub record Counted (b : HeldBook) : Type 0 where
-  pub constants_are : b.totals.constants ≡ length (constants (book_of b))
-  pub globals_are : b.totals.globals ≡ length (globals (book_of b))
-  pub procedures_are : b.totals.procedures ≡ length (procedures (book_of b))
-  pub constants_most : b.totals.constants ≤ 256
-  pub globals_most : b.totals.globals ≤ 64
-  pub procedures_most : b.totals.procedures ≤ 64

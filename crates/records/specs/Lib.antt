@@ -3,3 +3,4 @@ pub mod Book
 pub mod Held
 pub mod Sizes
 pub mod Found
+pub mod Sound

@@ -1,4 +1,4 @@
-ghost use Rattle.std.specs.Prelude.{◌≡◌, ◌+◌, ◌≤◌, length, take, drop, is_some};
+ghost use Rattle.std.specs.Prelude.{◌≡◌, ◌+◌, [], cond, length, take, drop, is_some};
 ghost use Rattle.language.specs.Expressions.{type_of};
 ghost use Rattle.records.specs.Book.{belongs, clauses_of, declared_as, modified, modified_by, of_kind, procedure_named};
 ghost use Rattle.records.specs.Found.{numbered};
@@ -22,27 +22,50 @@ fn part(entries: &[Entry], start: usize, count: usize) -> &[Entry]
 pub fn find_type(entries: &[Entry], name: u32) -> Option<ValueType>
     ensures { result ≡ type_of name entries.now }
 {
-    for entry in entries {
-        if entry.left == name {
-            return Some(ValueType {
-                number: entry.right,
-            });
-        }
+    entries
+        .iter()
+        .find(|entry| entry.left == name)
+        .map(|entry| ValueType {
+            number: entry.right,
+        })
+}
+
+impl Declaration {
+    /// How many entries it has.
+    pub(crate) fn size(self) -> usize
+        ensures { result ≡ self.a + self.b }
+    {
+        self.a as usize + self.b as usize
     }
-    None
 }
 
 impl<'a> HeldBook<'a> {
+    /// The entries of a record where a test says so; else none.
+    fn entries_if(&self, test: bool, start: u32, count: usize) -> &'a [Entry]
+        ensures { result.now ≡ cond test (take count (drop start self.now.entries.now)) [] }
+    {
+        part(self.entries, start as usize, if test { count } else { 0 })
+    }
+
     /// The entries of a declaration, if it is of this kind; else none.
-    fn declared_as(&self, declaration: Declaration, kind: DeclarationKind) -> &[Entry]
+    fn declared_as(&self, declaration: Declaration, kind: DeclarationKind) -> &'a [Entry]
         ensures { result.now ≡ of_kind kind (declared_in self.now.entries.now declaration) }
     {
-        let start = declaration.start as usize;
-        let count = declaration.a as usize + declaration.b as usize;
-        part(
-            self.entries,
-            start,
-            if declaration.kind.is(kind) { count } else { 0 },
+        self.entries_if(
+            declaration.kind == kind,
+            declaration.start,
+            declaration.size(),
+        )
+    }
+
+    /// The entries of a clause, if it is a modifies clause of that procedure; else none.
+    fn modified_by(&self, clause: Clause, procedure: usize) -> &'a [Entry]
+        ensures { result.now ≡ modified_by procedure (stated_in self.now.entries.now clause) }
+    {
+        self.entries_if(
+            clause.belongs_to(ClauseKind::Modifies, procedure),
+            clause.start,
+            clause.count as usize,
         )
     }
 
@@ -62,65 +85,36 @@ impl<'a> HeldBook<'a> {
     pub fn find_procedure(&self, name: u32) -> Option<Procedure<'a>>
         ensures { option_map numbered result ≡ procedure_named name (book_of self.now) }
     {
-        let entries = self.entries;
-        let mut number = 0;
-        for declaration in self.declarations {
-            if declaration.kind.is(DeclarationKind::Procedure) {
-                if declaration.name == name {
-                    let start = declaration.start as usize;
-                    let count = declaration.a as usize + declaration.b as usize;
-                    return Some(Procedure {
-                        number,
-                        ins: declaration.a,
-                        parameters: part(entries, start, count),
-                    });
-                }
-                number += 1;
-            }
-        }
-        None
+        self.declarations
+            .iter()
+            .filter(|declaration| declaration.kind == DeclarationKind::Procedure)
+            .enumerate()
+            .find(|(_, declaration)| declaration.name == name)
+            .map(|(number, declaration)| Procedure {
+                number,
+                ins: declaration.a,
+                parameters: part(self.entries, declaration.start as usize, declaration.size()),
+            })
     }
 
     /// How many clauses there are of the kind and of the procedure of that number, or how many axioms.
     pub fn count_clauses(&self, kind: ClauseKind, procedure: usize) -> usize
         ensures { result ≡ length (clauses_of kind procedure (book_of self.now)) }
     {
-        let mut count = 0;
-        for clause in self.clauses {
-            if clause.belongs_to(kind, procedure) {
-                count += 1;
-            }
-        }
-        count
-    }
-
-    /// The entries of a clause, if it is a modifies clause of that procedure; else none.
-    fn modified_by(&self, clause: Clause, procedure: usize) -> &[Entry]
-        ensures { result.now ≡ modified_by procedure (stated_in self.now.entries.now clause) }
-    {
-        let start = clause.start as usize;
-        let count = clause.count as usize;
-        part(
-            self.entries,
-            start,
-            if clause.belongs_to(ClauseKind::Modifies, procedure) {
-                count
-            } else {
-                0
-            },
-        )
+        self.clauses
+            .iter()
+            .filter(|clause| clause.belongs_to(kind, procedure))
+            .count()
     }
 
     /// Do the modifies clauses of the procedure of that number name this global?
     pub fn is_modified(&self, procedure: usize, name: u32) -> bool
         ensures { result ≡ is_some (type_of name (modified procedure (book_of self.now))) }
     {
-        for clause in self.clauses {
-            if let Some(_) = find_type(self.modified_by(*clause, procedure), name) {
-                return true;
-            }
-        }
-        false
+        self.clauses.iter().any(|clause| find_type(
+            self.modified_by(*clause, procedure),
+            name,
+        ).is_some())
     }
 }
 
@@ -129,7 +123,7 @@ impl Clause {
     fn belongs_to(self, kind: ClauseKind, procedure: usize) -> bool
         ensures { result ≡ belongs kind procedure self.kind self.procedure }
     {
-        self.kind.is(kind) && (kind.is(ClauseKind::Axiom) || self.procedure as usize == procedure)
+        self.kind == kind && (kind == ClauseKind::Axiom || self.procedure as usize == procedure)
     }
 }
 

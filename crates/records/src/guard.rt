@@ -1,11 +1,13 @@
-ghost use Rattle.std.specs.Prelude.{◌≡◌, ◌+◌, ◌<◌, ◌≤◌, true, [], length, IfSome};
-ghost use Rattle.records.specs.Held.{Counted, clauses_fit, count_of, held_in, is_full, book_of, declaration_fits, sound_book, stored};
+ghost use Rattle.std.specs.Prelude.{◌≡◌, ◌+◌, ◌<◌, ◌≤◌, true, [], length};
+ghost use Rattle.records.specs.Held.{clauses_fit, count_of, held_in, is_full, declaration_fits, sound_book, stored};
+ghost use Rattle.records.specs.Sound.{shown};
 ghost use Rattle.records.specs.Sizes.{Few, counting, few, has_row, lies, none, row_of, surveyed};
 ghost use Rattle.std.specs.Option.{option_map};
 
 use crate::lists::{
     Clause, ClauseKind, Counts, Declaration, DeclarationKind, HeldBook, Lists, Totals,
 };
+use crate::sound::SoundBook;
 use page::Entry;
 
 impl Declaration {
@@ -13,11 +15,11 @@ impl Declaration {
     fn fits(self, count: usize) -> bool
         ensures { result ≡ declaration_fits count self }
     {
-        let end = self.start as usize + (self.a as usize + self.b as usize);
+        let end = self.start as usize + self.size();
         if end > count {
             return false;
         }
-        !self.kind.is(DeclarationKind::Procedure) || self.a <= 16 && self.b <= 16
+        self.kind != DeclarationKind::Procedure || self.a <= 16 && self.b <= 16
     }
 }
 
@@ -40,7 +42,7 @@ impl Totals {
         requires { Few self }
         ensures { result ≡ counting declaration self }
     {
-        let size = declaration.a as usize + declaration.b as usize;
+        let size = declaration.size();
         let mut totals = self;
         match declaration.kind {
             DeclarationKind::Constants => totals.constants += size,
@@ -62,11 +64,7 @@ impl Totals {
 fn survey(declarations: &[Declaration], count: usize) -> Option<Totals>
     ensures { result ≡ surveyed count none declarations.now }
 {
-    let mut totals = Totals {
-        constants: 0,
-        globals: 0,
-        procedures: 0,
-    };
+    let mut totals = Totals::default();
     for d in declarations {
         if !d.fits(count) {
             return None;
@@ -87,7 +85,7 @@ impl Clause {
         if self.start as usize + self.count as usize > count || self.count > 1024 {
             return false;
         }
-        self.kind.is(ClauseKind::Axiom) || (self.procedure as usize) < procedures
+        self.kind == ClauseKind::Axiom || (self.procedure as usize) < procedures
     }
 
     /// The row in which the clause counts, of 193.
@@ -130,41 +128,35 @@ fn sound_book<'a>(
     declarations: &'a [Declaration],
     clauses: &'a [Clause],
     entries: &'a [Entry],
-) -> Option<HeldBook<'a>>
-    ensures is { option_map book_of result ≡ sound_book (record { declarations = declarations.now; clauses = clauses.now; entries = entries.now }) }
-    ensures counted { IfSome result Counted }
+) -> Option<SoundBook<'a>>
+    ensures { option_map shown result ≡ sound_book (record { declarations = declarations.now; clauses = clauses.now; entries = entries.now }) }
 {
-    let Some(totals) = survey(declarations, entries.len()) else {
-        return None;
-    };
+    let totals = survey(declarations, entries.len())?;
     if !clauses_fit(clauses, entries.len(), totals.procedures) {
         return None;
     }
-    Some(HeldBook {
-        declarations,
-        clauses,
-        entries,
+    Some(SoundBook {
+        held: HeldBook {
+            declarations,
+            clauses,
+            entries,
+        },
         totals,
     })
 }
 
 /// The book that the lists hold, where so many records of each are in use; `None` where they hold none.
-pub fn held<'a>(lists: &'a Lists, counts: Counts) -> Option<HeldBook<'a>>
-    ensures is { option_map book_of result ≡ held_in counts (stored lists.now) }
-    ensures counted { IfSome result Counted }
+pub fn held<'a>(lists: &'a Lists, counts: Counts) -> Option<SoundBook<'a>>
+    ensures { option_map shown result ≡ held_in counts (stored lists.now) }
 {
-    let declared = counts.declarations;
-    let stated = counts.clauses;
-    let used = counts.entries as usize;
-    if lists.declarations.len() < declared
-        || lists.clauses.len() < stated
-        || lists.entries.len() < used
-    {
-        return None;
-    }
+    let Counts {
+        declarations,
+        clauses,
+        entries,
+    } = counts;
     sound_book(
-        &lists.declarations[0..declared],
-        &lists.clauses[0..stated],
-        &lists.entries[0..used],
+        lists.declarations.get(0..declarations)?,
+        lists.clauses.get(0..clauses)?,
+        lists.entries.get(0..entries as usize)?,
     )
 }

@@ -4,3 +4,4 @@
 pub mod find;
 pub mod guard;
 pub mod lists;
+pub mod sound;

@@ -1,41 +1,20 @@
-ghost use Rattle.records.specs.Kinds.{same_clause, same_declaration};
-ghost use Rattle.std.specs.Prelude.{◌≡◌};
-
 use page::Entry;
 
 /// What a declaration record declares.
-#[derive(Clone, Copy)]
+#[derive(Clone, Copy, PartialEq, Eq)]
 pub enum DeclarationKind {
     Constants = 3,
     Globals = 4,
     Procedure = 6,
 }
 
-impl DeclarationKind {
-    /// Are these the same kind?
-    pub fn is(self, other: DeclarationKind) -> bool
-        ensures { result ≡ same_declaration self other }
-    {
-        self as u8 == other as u8
-    }
-}
-
 /// What a clause record states.
-#[derive(Clone, Copy)]
+#[derive(Clone, Copy, PartialEq, Eq)]
 pub enum ClauseKind {
     Axiom = 7,
     Requires = 8,
     Ensures = 9,
     Modifies = 10,
-}
-
-impl ClauseKind {
-    /// Are these the same kind?
-    pub fn is(self, kind: ClauseKind) -> bool
-        ensures { result ≡ same_clause self kind }
-    {
-        self as u8 == kind as u8
-    }
 }
 
 /// A declaration: its kind, its name (0 but for procedures), and its a + b entries, from `start` on in the table of entries.
@@ -74,7 +53,7 @@ pub struct Counts {
 }
 
 /// How many constants, globals and procedures there are.
-#[derive(Clone, Copy)]
+#[derive(Clone, Copy, Default)]
 pub struct Totals {
     pub constants: usize,
     pub globals: usize,
@@ -87,7 +66,6 @@ pub struct HeldBook<'a> {
     pub declarations: &'a [Declaration],
     pub clauses: &'a [Clause],
     pub entries: &'a [Entry],
-    pub totals: Totals,
 }
 
 /// A procedure of a held book: its number, how many of its parameters are in-parameters, and all of them.

@@ -1,5 +1,6 @@
 -- What a sink promises of one tell.
-use Rattle.std.specs.Prelude.{◌≡◌, ℕ, ◌+◌, ◌<◌, ◌≤◌, Bool, true, false, ◌&&◌, List, [], ◌∷◌, map, length, Some, None, Ok, Err, Option, ◌==◌, nat_lt}
+use Rattle.std.specs.Prelude.{◌≡◌, ℕ, ◌+◌, ◌<◌, ◌≤◌, Bool, true, false, ◌&&◌, List, map, length, Some, None, Ok, Err, Option, ◌==◌, nat_lt}
+use Rattle.std.specs.List.{list_all}
 use Rattle.world.specs.Tells.{Tell, arity, meant, Binds}
 use Rattle.world.specs.Worlds.{Reading}
 use Rattle.sink.specs.declared.Cause.{Cause}
@@ -13,8 +14,7 @@ suits (Some n) count = count == n
 
 -- Is each of these numbers below n?
 abbrev pub below : ℕ → List ℕ → Bool
-below n [] = true
-below n (x ∷ xs) = nat_lt x n && below n xs
+below n xs = list_all (λ x. nat_lt x n) xs
 
 -- In a sink with so many entries: are these operands entries, and as many as the code has?
 abbrev pub fitting : ℕ → ℕ → List ℕ → Bool

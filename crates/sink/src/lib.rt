@@ -8,7 +8,7 @@ ghost use Rattle.world.specs.Tells.{Tell};
 ghost use Rattle.world.specs.Worlds.{Reading};
 
 /// Why a tell was refused.
-#[derive(Clone, Copy)]
+#[derive(Clone, Copy, Debug, PartialEq, Eq)]
 pub enum Cause {
     /// An operand is no entry, or their count is not the code's.
     Operands,
@@ -18,12 +18,12 @@ pub enum Cause {
     Full,
 }
 
-impl Cause {
-    /// The number by which callers know the cause.
-    pub fn number(self) -> u32
-        ensures { result ≡ cause_number self }
-    {
-        match self {
+/// The number by which callers know the cause.
+impl From<Cause> for u32 {
+    ghost from_gives = { λ cause n. n ≡ cause_number cause };
+
+    fn from(cause: Cause) -> u32 {
+        match cause {
             Cause::Operands => 1,
             Cause::Code => 2,
             Cause::Full => 3,
@@ -51,6 +51,7 @@ pub trait Sink {
     ghost lawful: { (s : Self) (t : Tell) (a : Answer) (z : Self) → steps s t a z → Told watches entries value takes spare s t a z };
 
     /// Tells an entry: its code, its argument and the entries that are its operands.
+    // Plain numbers, as every call takes them: a caller has no struct to fill.
     fn tell(&mut self, code: u32, argument: u32, operands: &[u32]) -> Result<u32, Cause>
         ensures told { Told watches entries value takes spare self.old (record { code = code; argument = argument; operands = operands.now }) result self.new }
         ensures steps { steps self.old (record { code = code; argument = argument; operands = operands.now }) result self.new };

@@ -1,65 +1,36 @@
 -- What one more entry leaves of what is held.
-use Rattle.std.specs.Prelude.{◌≡◌, ℕ, ◌+◌, ◌<◌, ◌≤◌, true, false, cond, ◌||◌, List, [], ◌∷◌, ◌++◌, map, length, take, drop, Some, None, Option, ◌==◌, nat_le, slice_index_or, refl}
+use Rattle.std.specs.Prelude.{◌≡◌, ℕ, suc, ◌+◌, ◌<◌, ◌≤◌, true, false, List, [], ◌∷◌, ◌++◌, map, length, take, drop, Some, refl}
 use Rattle.std.proofs.Common.{sym, ap, subst, ◌∙◌, arith}
 use Rattle.std.proofs.Math.Seq.{paste}
-use Rattle.std.specs.List.{AllByRecursion}
-use Rattle.std.proofs.lemmas.List.Edits.{length-paste}
-use Rattle.std.proofs.ByRecursion.{All-get_or, All-push, All-weaker}
-use Rattle.std.proofs.lemmas.List.{take_more_set, take-take, drop-take, take_at, drop_at, take_all, append_assoc, length-set, length-take-le, length_push, get_or_append_left, get_or_push, get_or-take}
-use Rattle.std.proofs.lemmas.Bool.{leb-true, le-leb, and_parts, and_from, cond_both}
-use Rattle.language.specs.Codes.{between}
+use Rattle.std.specs.List.{All}
+use Rattle.std.proofs.lemmas.List.Elements.{All-push, All-weaker}
+use Rattle.std.proofs.lemmas.List.{take_more_set, take-take, drop-take, length_push, get_or_append_left, get_or_push}
+use Rattle.std.proofs.lemmas.Bool.Decides.{nat_tests}
+use Rattle.std.proofs.lemmas.Grind.{common_steps}
 use Rattle.sink.specs.Laws.{apt}
 use Rattle.sink.proofs.Apt.{apt_parts}
 use Rattle.world.specs.Tells.{Tell, arity, meant}
 use Rattle.world.specs.Worlds.{Reading}
 use Rattle.terms.specs.declared.Term.{Term}
-use Rattle.terms.specs.Held.{among, Held, spare_of, new_term, grown_by, operands_in, looked, entered, grown, values_of, value_of}
+use Rattle.terms.specs.Held.{Held, spare_of, new_term, grown_by, operands_in, looked, entered, grown, values_of, value_of}
 
--- What the test of the records says.
-pub all_among : (placed : ℕ) (ts : List Term) → among placed ts ≡ true → AllByRecursion (λ t. t.first + t.count ≤ placed) ts
-all_among placed [] h = tt
-all_among placed (t ∷ ts) h = let p = and_parts (nat_le (t.first + t.count) placed) (among placed ts) h in (leb-true (t.first + t.count) placed p.0, all_among placed ts p.1)
-
--- The test of the records, from what it says.
-pub among_all : (placed : ℕ) (ts : List Term) → AllByRecursion (λ t. t.first + t.count ≤ placed) ts → among placed ts ≡ true
-among_all placed [] h = refl
-among_all placed (t ∷ ts) (h, k) = and_from (nat_le (t.first + t.count) placed) (among placed ts) (le-leb (t.first + t.count) placed h) (among_all placed ts k)
-
--- What it says of one of the records.
-pub among_at : (placed used k : ℕ) (ts : List Term) (d : Term) → among placed (take used ts) ≡ true → k < used → used ≤ length ts → (slice_index_or ts k d).first + (slice_index_or ts k d).count ≤ placed
-among_at placed used k ts d h l m =
-    let P : Term → Type 0 = λ t. t.first + t.count ≤ placed in
-    let b : k < length (take used ts) = let e = length-take-le used ts m in omega arith in
-    subst P (get_or-take used ts k d l) (All-get_or P (take used ts) k d b (all_among placed (take used ts) h))
+-- The operands of each used record stand among the first so many places.
+abbrev pub Among : ℕ → ℕ → List Term → Type 0
+Among placed used ts = All (λ t. t.first + t.count ≤ placed) (take used ts)
 
 -- A told code has at most two operands.
-pub arity_few : (code n : ℕ) → arity code ≡ Some n → n ≤ 2
-arity_few code n =
-    let P : Option ℕ → Type 0 = λ o. o ≡ Some n → n ≤ 2 in
-    cond_both (between 1 5 code || code == 7) (Some 0) (cond (between 12 13 code) (Some 1) (cond (between 14 29 code) (Some 2) None)) P
-    (λ _ e. let k : 0 ≡ n = cc in omega arith)
-    (λ _. cond_both (between 12 13 code) (Some 1) (cond (between 14 29 code) (Some 2) None) P
-    (λ _ e. let k : 1 ≡ n = cc in omega arith)
-    (λ _. cond_both (between 14 29 code) (Some 2) None P
-    (λ _ e. let k : 2 ≡ n = cc in omega arith)
-    (λ _ e. let k : ◌≡◌ {A = ℕ} 0 1 = cc in omega arith)))
+arity_few : (code n : ℕ) → arity code ≡ Some n → n ≤ 2
+arity_few code n h = grind (arith, nat_tests)
 
 -- What a write of all of xs leaves.
 module _ (ps xs : List ℕ) (at : ℕ) (room : at + length xs ≤ length ps) where
   -- the places before it stay
   paste_before : take at (paste ps at xs (length xs)) ≡ take at ps
-  paste_before =
-      let l : at ≤ length ps = omega arith in
-      ap (take at) (append_assoc (take at ps) (take (length xs) xs) (drop (at + length xs) ps)) ∙ take_at (take at ps) _ at (length-take-le at ps l)
+  paste_before = grind (arith, common_steps)
 
   -- and there it is
   paste_there : take (length xs) (drop at (paste ps at xs (length xs))) ≡ xs
-  paste_there =
-      let l : at ≤ length ps = omega arith in
-      let m : length xs ≤ length xs = omega arith in
-      ap (λ ys. take (length xs) (drop at ys)) (append_assoc (take at ps) (take (length xs) xs) (drop (at + length xs) ps))
-      ∙ ap (take (length xs)) (drop_at (take at ps) (take (length xs) xs ++ drop (at + length xs) ps) at (length-take-le at ps l))
-      ∙ take_at (take (length xs) xs) _ (length xs) (length-take-le (length xs) xs m) ∙ take_all (length xs) xs m
+  paste_there = grind (arith, common_steps)
 
 -- Values of records in turn.
 module _ {V : Type 0} (q : Reading V) where
@@ -74,11 +45,11 @@ module _ {V : Type 0} (q : Reading V) where
   length-grown places vs (u ∷ ts) = let h = length-grown places (vs ++ (entered q places vs u ∷ [])) ts in let k = length_push vs (entered q places vs u) in omega arith
 
   -- only the places that the records use matter
-  grown_same : (places places' : List ℕ) (n : ℕ) → take n places ≡ take n places' → (vs : List V) (ts : List Term) → AllByRecursion (λ t. t.first + t.count ≤ n) ts → grown q places' vs ts ≡ grown q places vs ts
+  grown_same : (places places' : List ℕ) (n : ℕ) → take n places ≡ take n places' → (vs : List V) (ts : List Term) → All (λ t. t.first + t.count ≤ n) ts → grown q places' vs ts ≡ grown q places vs ts
   grown_same places places' n same vs [] a = refl
-  grown_same places places' n same vs (u ∷ ts) (h, a) =
-      let e : entered q places' vs u ≡ entered q places vs u = ap (λ ks. meant q u.code u.argument (map (looked q vs) ks)) (operands_same places places' n same u h) in
-      ap (λ v. grown q places' (vs ++ (v ∷ [])) ts) e ∙ grown_same places places' n same (vs ++ (entered q places vs u ∷ [])) ts a
+  grown_same places places' n same vs (u ∷ ts) a =
+      let e : entered q places' vs u ≡ entered q places vs u = ap (λ ks. meant q u.code u.argument (map (looked q vs) ks)) (operands_same places places' n same u (a 0 u (omega arith))) in
+      ap (λ v. grown q places' (vs ++ (v ∷ [])) ts) e ∙ grown_same places places' n same (vs ++ (entered q places vs u ∷ [])) ts (λ k d l. a (suc k) d (omega arith))
     where
       operands_same : (places places' : List ℕ) (n : ℕ) → take n places ≡ take n places' → (t : Term) → t.first + t.count ≤ n → operands_in places' t ≡ operands_in places t
       operands_same places places' n same t h =
@@ -89,12 +60,12 @@ module _ {V : Type 0} (q : Reading V) where
 pub record Sound (h : Held) : Type 0 where
   pub fit : h.used ≤ length h.records
   pub room : h.placed ≤ length h.places
-  pub operands : AllByRecursion (λ t. t.first + t.count ≤ h.placed) (take h.used h.records)
+  pub operands : Among h.placed h.used h.records
 
 -- One more entry, where there is spare for it.
 module _ (t : Tell) (h : Held) (on : Sound h) (suits : apt h.used t ≡ true) (spare : 0 < spare_of h) where
   -- there are a record and places for it
-  pub roomy : (h.used < length h.records) × (h.placed + length t.operands ≤ length h.places) × (length t.operands ≤ 2)
+  roomy : (h.used < length h.records) × (h.placed + length t.operands ≤ length h.places) × (length t.operands ≤ 2)
   roomy =
       let n = arity_few t.code (length t.operands) (apt_parts h.used t suits).0 in
       (omega arith, omega arith, n)
@@ -105,25 +76,20 @@ module _ (t : Tell) (h : Held) (on : Sound h) (suits : apt h.used t ≡ true) (s
 
   -- the spare falls by at most one
   pub falls_one : spare_of h ≤ spare_of (grown_by t h) + 1
-  falls_one =
-      let r = roomy in
-      let k = length-set h.records h.used (new_term t h) in
-      let m : length t.operands ≤ length t.operands = omega arith in
-      let l = length-paste h.places h.placed t.operands (length t.operands) r.1 m in
-      omega arith
+  falls_one = let r = roomy in grind (arith, common_steps)
 
   -- its operands stand among the places
-  pub among_more : among (grown_by t h).placed (take (h.used + 1) (grown_by t h).records) ≡ true
+  pub among_more : Among (grown_by t h).placed (h.used + 1) (grown_by t h).records
   among_more =
       let P : Term → Type 0 = λ u. u.first + u.count ≤ h.placed + length t.operands in
-      let old : AllByRecursion P (take h.used h.records) = All-weaker (λ u. u.first + u.count ≤ h.placed) P (λ u b. omega arith) (take h.used h.records) on.operands in
+      let old : All P (take h.used h.records) = All-weaker (λ u. u.first + u.count ≤ h.placed) P (λ u b. omega arith) (take h.used h.records) on.operands in
       let new : P (new_term t h) = omega arith in
-      ap (among (grown_by t h).placed) records_more ∙ among_all (grown_by t h).placed (take h.used h.records ++ (new_term t h ∷ [])) (All-push P (take h.used h.records) (new_term t h) old new)
+      subst (All P) (sym records_more) (All-push P (take h.used h.records) (new_term t h) old new)
 
   module _ {V : Type 0} (q : Reading V) where
     -- there is a value for each entry
     length-values : length (values_of h q) ≡ h.used
-    length-values = length-grown q h.places [] (take h.used h.records) ∙ (let k = length-take-le h.used h.records on.fit in omega arith)
+    length-values = let f = on.fit in grind (arith, common_steps, length-grown q h.places [] (take h.used h.records))
 
     -- all values are those before and its own
     values_more : values_of (grown_by t h) q ≡ values_of h q ++ (entered q (grown_by t h).places (values_of h q) (new_term t h) ∷ [])

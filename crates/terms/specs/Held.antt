@@ -1,6 +1,5 @@
 -- What a term list holds, what it answers to a tell, and the values of its entries.
-use Rattle.std.specs.Prelude.{ℕ, ◌+◌, ◌-◌, ◌/◌, min, Bool, true, false, cond, ◌&&◌, List, [], ◌∷◌, ◌++◌, map, length, take, drop, Some, None, Ok, Err, Option, ◌==◌, nat_le, nat_lt, slice_index_or, slice_set}
-use Rattle.std.specs.Borrow.{Bor}
+use Rattle.std.specs.Prelude.{ℕ, ◌+◌, ◌-◌, ◌/◌, min, false, cond, List, [], ◌∷◌, ◌++◌, map, length, take, drop, Some, None, Ok, Err, Option, ◌==◌, nat_lt, slice_index_or, slice_set}
 use Rattle.std.proofs.Math.Seq.{paste}
 use Rattle.sink.specs.declared.Cause.TheVariants.{Operands, Full}
 use Rattle.sink.specs.Causes.{Answer}
@@ -8,11 +7,6 @@ use Rattle.sink.specs.Laws.{apt}
 use Rattle.world.specs.Tells.{Tell, meant}
 use Rattle.world.specs.Worlds.{Reading}
 use Rattle.terms.specs.declared.Term.{Term}
-
--- Does each of the records have its operands among the first so many places?
-abbrev pub among : ℕ → List Term → Bool
-among placed [] = true
-among placed (t ∷ ts) = nat_le (t.first + t.count) placed && among placed ts
 
 -- The records and the operand places, and how many of each are used, the first ones.
 pub record Held : Type 0 where
@@ -69,11 +63,6 @@ term_at h k = cond (nat_lt k h.used) (Some (record_at h k)) None
 -- An entry's operands, where it is one.
 abbrev pub operands_at : Held → ℕ → Option (List ℕ)
 operands_at h k = cond (nat_lt k h.used) (Some (operands_in h.places (record_at h k))) None
-
--- What a reference points to, where there is one.
-abbrev pub seen : {X : Type 0} → Option (Bor X) → Option X
-seen None = None
-seen (Some r) = Some r.now
 
 -- The value at a number; false past the last.
 abbrev pub looked : {V : Type 0} → Reading V → List V → ℕ → V

@@ -6,14 +6,15 @@ mod reading;
 mod sinks;
 mod suited;
 
-ghost use Rattle.std.specs.Prelude.{◌≡◌, ◌≤◌, true, length, take};
-ghost use Rattle.terms.specs.Held.{among};
+ghost use Rattle.std.specs.List.{All};
+ghost use Rattle.std.specs.Prelude.{◌+◌, ◌≤◌, length, take};
 
 pub use reading::Listing;
 use world::Carrier;
 
 /// One entry: its operands are so many places from the first on.
-#[derive(Clone, Copy)]
+// A count and a place, and no list of its own, since the operands of all entries lie in one lent slice.
+#[derive(Clone, Copy, Debug, PartialEq, Eq)]
 pub struct Term {
     pub code: u32,
     pub argument: u32,
@@ -22,6 +23,7 @@ pub struct Term {
 }
 
 /// A term list over lent records and operand places, of which it uses the first ones; the carrier is that of its readings.
+// Nothing is allocated: lent slices have a fixed length, so that the counts of what is used stand beside them.
 #[derive(Drop)]
 pub struct Terms<'a, C: Carrier + Drop> {
     records: &'a mut [Term],
@@ -31,5 +33,5 @@ pub struct Terms<'a, C: Carrier + Drop> {
     carrier: C,
     ghost fit: { used ≤ length records.now },
     ghost room: { placed ≤ length places.now },
-    ghost operands: { among placed (take used records.now) ≡ true },
+    ghost operands: { All (λ t. t.first + t.count ≤ placed) (take used records.now) },
 }

@@ -1,6 +1,6 @@
 //! A term list made and read.
-ghost use Rattle.std.specs.Prelude.{◌≡◌};
-ghost use Rattle.terms.specs.Held.{operands_at, seen, term_at};
+ghost use Rattle.std.specs.Prelude.{◌≡◌, option_map, take};
+ghost use Rattle.terms.specs.Held.{operands_at, term_at};
 ghost use Rattle.terms.specs.Steps.{held};
 
 use crate::{Term, Terms};
@@ -21,26 +21,26 @@ impl<'a, C: Carrier + Drop> Terms<'a, C> {
         }
     }
 
+    /// The entries in their order.
+    fn entries(&self) -> &[Term]
+        ensures { result.now ≡ take self.now.used self.now.records.now }
+    {
+        &self.records[..self.used as usize]
+    }
+
     /// The entry of that number, if there is one.
     pub fn term(&self, entry: u32) -> Option<Term>
         ensures { result ≡ term_at (held self.now) entry }
     {
-        if entry >= self.used {
-            return None;
-        }
-        Some(self.records[entry as usize])
+        self.entries().get(entry as usize).copied()
     }
 
     /// The operands of the entry of that number, if there is one.
     pub fn operands_of(&self, entry: u32) -> Option<&[u32]>
-        ensures { seen result ≡ operands_at (held self.now) entry }
+        ensures { option_map (λ r. r.now) result ≡ operands_at (held self.now) entry }
     {
-        if entry >= self.used {
-            return None;
-        }
-        let term = self.records[entry as usize];
+        let term = self.entries().get(entry as usize)?;
         let first = term.first as usize;
-        let count = term.count as usize;
-        Some(&self.places[first..first + count])
+        Some(&self.places[first..first + term.count as usize])
     }
 }

@@ -1,6 +1,5 @@
 //! A term list as a sink.
-ghost use Rattle.std.specs.Prelude.{◌≡◌, ◌+◌, ◌≤◌, true, length, ◌==◌};
-ghost use Rattle.std.proofs.Math.Seq.{paste};
+ghost use Rattle.std.specs.Prelude.{◌≡◌, true};
 ghost use Rattle.terms.specs.Lawful.{term_lawful};
 ghost use Rattle.terms.specs.Held.{left, spare_of, value_of};
 ghost use Rattle.terms.specs.Steps.{held, Steps};
@@ -14,12 +13,7 @@ use world::Carrier;
 fn left_of(room: usize, used: u32) -> u32
     ensures { result ≡ left room used }
 {
-    let limit = if room < 4294967295 {
-        room as u32
-    } else {
-        4294967295
-    };
-    limit.saturating_sub(used)
+    u32::try_from(room).unwrap_or(u32::MAX).saturating_sub(used)
 }
 
 impl<'a, C: Carrier + Drop> Terms<'a, C> {
@@ -30,28 +24,6 @@ impl<'a, C: Carrier + Drop> Terms<'a, C> {
         let records = left_of(self.records.len(), self.used);
         let places = left_of(self.places.len(), self.placed);
         records.min(places / 16)
-    }
-
-    /// Is the spare 0?
-    fn full(&self) -> bool
-        ensures { result ≡ (spare_of (held self.now) == 0) }
-    {
-        self.spare() == 0
-    }
-
-    /// Writes the operands to the first free places.
-    fn put_all(&mut self, operands: &[u32])
-        requires { self.old.placed + length operands.now ≤ length self.old.places.now }
-        ensures places { self.new.places.now ≡ paste self.old.places.now self.old.placed operands.now (length operands.now) }
-        ensures kept { length self.new.places.now ≡ length self.old.places.now }
-        ensures records { self.new.records.now ≡ self.old.records.now }
-        ensures counts { (self.new.used ≡ self.old.used) × (self.new.placed ≡ self.old.placed) }
-        ensures lent { (self.new.records.ghost_name ≡ self.old.records.ghost_name) × (self.new.places.ghost_name ≡ self.old.places.ghost_name) }
-    {
-        let first = self.placed as usize;
-        for i in 0..operands.len() {
-            self.places[first + i] = operands[i];
-        }
     }
 }
 
@@ -77,20 +49,21 @@ impl<'a, C: Carrier + Drop> Sink for Terms<'a, C> {
         if !suited(self.used, code, operands) {
             return Err(Cause::Operands);
         }
-        if self.full() {
+        if self.spare() == 0 {
             return Err(Cause::Full);
         }
         let entry = self.used;
         let first = self.placed;
         let count = operands.len() as u32;
-        self.put_all(operands);
+        let end = first + count;
+        self.places[first as usize..end as usize].copy_from_slice(operands);
         self.records[entry as usize] = Term {
             code,
             argument,
             first,
             count,
         };
-        self.placed = first + count;
+        self.placed = end;
         self.used = entry + 1;
         Ok(entry)
     }

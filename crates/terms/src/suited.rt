@@ -1,6 +1,6 @@
 //! Whether operands suit a code: they are entries, and as many as the code has.
 ghost use Rattle.std.specs.Prelude.{◌≡◌};
-ghost use Rattle.sink.specs.Laws.{below, fitting};
+ghost use Rattle.sink.specs.Laws.{fitting};
 ghost use Rattle.world.specs.Tells.{arity};
 
 /// How many operands a told code has.
@@ -15,24 +15,9 @@ fn operand_count(code: u32) -> Option<usize>
     }
 }
 
-/// Is each of these an entry of the first so many?
-fn all_below(entries: u32, operands: &[u32]) -> bool
-    ensures { result ≡ below entries operands.now }
-{
-    for x in operands {
-        if *x >= entries {
-            return false;
-        }
-    }
-    true
-}
-
 /// Do the operands suit the code, in a sink of so many entries?
 pub(crate) fn suited(entries: u32, code: u32, operands: &[u32]) -> bool
     ensures { result ≡ fitting entries code operands.now }
 {
-    match operand_count(code) {
-        Some(count) => operands.len() == count && all_below(entries, operands),
-        None => false,
-    }
+    operand_count(code) == Some(operands.len()) && operands.iter().all(|x| *x < entries)
 }

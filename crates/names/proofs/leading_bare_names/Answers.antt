@@ -1,25 +1,18 @@
-use Rattle.std.proofs.Common.{sym, ap, ◌∙◌, arith}
-use Rattle.page.specs.Pages.{paired}
-use Rattle.page.proofs.Pairs.{get_or-paired, length-paired}
-use Rattle.records.proofs.Steps.{no_entry}
+use Rattle.std.proofs.Common.{ℕ, ◌∙◌, rules}
+use Rattle.std.specs.List.{zip}
+use Rattle.std.proofs.lemmas.Iterator.{YieldsList-from_slice, YieldsList-from_zip}
+use Rattle.std.proofs.lemmas.Iterator.Consumers.{count_from_yields_List}
+use Rattle.std.proofs.lemmas.Iterator.Search.{YieldsList-from_take_while}
+use Rattle.std.proofs.lemmas.List.Folds.{length-prefix_len}
 use Rattle.names.specs.Names.{is_bare_name}
-use Rattle.names.proofs.Leads.{lead_ends, lead_goes, lead_stops}
+use Rattle.names.proofs.Leads.{prefix_len-zip}
 use Rattle.names.proofs.leading_bare_names.Goals as goal
-
-pub returns-then-not-is_bare_name : goal.returns-then-not-is_bare_name
-returns-then-not-is_bare_name c =
-    let n = length-paired c.args.left.now c.args.right.now in
-    lead_stops is_bare_name (paired c.args.left.now c.args.right.now) c.loop-i.i no_entry _ c.loop-i.invariant (omega arith)
-    (ap is_bare_name (get_or-paired c.args.left.now c.args.right.now c.loop-i.i no_entry (omega arith) (omega arith)) ∙ sym c.if-not-is_bare_name.ensures)
-
-pub loop-i-preserved : goal.loop-i-preserved
-loop-i-preserved c =
-    let n = length-paired c.args.left.now c.args.right.now in
-    lead_goes is_bare_name (paired c.args.left.now c.args.right.now) c.loop-i.i no_entry _ c.loop-i.invariant (omega arith)
-    (ap is_bare_name (get_or-paired c.args.left.now c.args.right.now c.loop-i.i no_entry (omega arith) (omega arith)) ∙ sym c.if-not-is_bare_name.ensures)
 
 pub returns : goal.returns
 returns c =
-    let n = length-paired c.args.left.now c.args.right.now in
-    let e = lead_ends is_bare_name (paired c.args.left.now c.args.right.now) c.loop-i.i no_entry _ c.loop-i.invariant (omega arith) (omega arith) in
-    omega arith
+    count_from_yields_List _ c.count.result c.count.ensures.ran
+    (YieldsList-from_take_while _ (λ (n : ℕ × ℕ). is_bare_name (record { left = n.0; right = n.1 }))
+    (YieldsList-from_zip (YieldsList-from_slice c.args.left.now cc) (YieldsList-from_slice c.args.right.now cc))
+    c.take_while.ensures.closure c.take_while.ensures.done (λ x b q k. search rules))
+    ∙ length-prefix_len _ (zip c.args.left.now c.args.right.now)
+    ∙ prefix_len-zip is_bare_name c.args.left.now c.args.right.now

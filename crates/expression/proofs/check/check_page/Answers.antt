@@ -1,37 +1,18 @@
-use Rattle.std.proofs.Common.{◌<◌, length, ◌∙◌, arith}
+use Rattle.std.proofs.Common.{◌∙◌, arith, rules}
+use Rattle.std.specs.Slice.Iter.{iter_rest}
 use Rattle.page.specs.Pages.{paired}
-use Rattle.page.proofs.Pairs.{length-paired}
-use Rattle.holder.specs.Holding.{held}
-use Rattle.holder.specs.Stack.{waits}
 use Rattle.expression.specs.Scopes.{scope_of}
-use Rattle.expression.proofs.Walks.{ends_page, exact_of, stops_page, walk_goes, walk_stops}
+use Rattle.expression.proofs.Walks.{ends_page, exact_of}
 use Rattle.expression.proofs.check.check_page.Goals as goal
 
-pub returns-in-Err : goal.returns-in-Err
-returns-in-Err c =
-    let ls = c.args.left.now in
-    let rs = c.args.right.now in
-    let h : c.loop-i.i < length ls = omega arith in
-    let k : c.loop-i.i < length rs = omega arith in
-    let e = stops_page (scope_of c.args.scope.now) ls rs _
-    (walk_stops (scope_of c.args.scope.now) ls rs c.loop-i.i (waits (held c.loop-i.waiting)) _ c.loop-i.invariant.1 h k c.in-Err.ground c.in-Err.ensures.does) in
-    record { is = e; exact = exact_of (scope_of c.args.scope.now) (paired ls rs) _ e }
+pub returns-in_err-map_err-clause-exact : goal.returns-in_err-map_err-clause-exact
+returns-in_err-map_err-clause-exact c = exact_of (scope_of c.args.scope.now) (paired c.args.left.now c.args.right.now) _ (search rules)
 
-pub loop-i-preserved : goal.loop-i-preserved
-loop-i-preserved c =
-    let ls = c.args.left.now in
-    let rs = c.args.right.now in
-    let h : c.loop-i.i < length ls = omega arith in
-    let k : c.loop-i.i < length rs = omega arith in (
-      c.check_entry.ensures.room,
-      walk_goes (scope_of c.args.scope.now) ls rs c.loop-i.i (waits (held c.loop-i.waiting)) _ c.loop-i.invariant.1 h k (waits (held c.check_entry.new.waiting)) c.in_default.ensures.does,
-    )
+pub returns-clause-is : goal.returns-clause-is
+returns-clause-is c =
+    c.check_end.ensures
+    ∙ ends_page (scope_of c.args.scope.now) c.args.left.now c.args.right.now (iter_rest c.loop-i.i-iterator.iter.a) (iter_rest c.loop-i.i-iterator.iter.b) _ _ _
+    c.loop-i.invariant (grind arith) c.min.ensures
 
-pub returns : goal.returns
-returns c =
-    let ls = c.args.left.now in
-    let rs = c.args.right.now in
-    let n = length-paired ls rs in
-    let e = c.check_end.ensures
-    ∙ ends_page (scope_of c.args.scope.now) ls rs c.loop-i.i c.min-count.result (waits (held c.loop-i.waiting)) c.loop-i.invariant.1 (omega arith) (omega arith) in
-    record { is = e; exact = exact_of (scope_of c.args.scope.now) (paired ls rs) c.check_end.result e }
+pub returns-clause-exact : goal.returns-clause-exact
+returns-clause-exact c = exact_of (scope_of c.args.scope.now) (paired c.args.left.now c.args.right.now) _ (returns-clause-is c)

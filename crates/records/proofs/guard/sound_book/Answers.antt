@@ -1,31 +1,23 @@
+use Rattle.std.proofs.Common.{◌∙◌, ◌≡◌, None, Some, ap, length, rules}
+use Rattle.std.specs.Option.{option_map}
+use Rattle.records.specs.Sizes.{none, surveyed}
+use Rattle.records.specs.Sound.{shown}
 use Rattle.records.proofs.Sized.{counts, held_by, no_survey}
 use Rattle.records.proofs.guard.sound_book.Goals as goal
 
-pub returns-in_default : goal.returns-in_default
-returns-in_default c =
-    record {
-      is = no_survey c.args.entries.now c.args.clauses.now c.args.declarations.now c.in_default.ensures;
-      counted = tt;
-    }
+pub returns-in_err-totals : goal.returns-in_err-totals
+returns-in_err-totals c =
+    let e : None ≡ surveyed (length c.args.entries.now) none c.args.declarations.now = search rules in
+    let r : c.from_residual.result ≡ None = search rules in
+    ap (option_map shown) r ∙ no_survey c.args.entries.now c.args.clauses.now c.args.declarations.now e
 
 pub returns-then-not-clauses_fit : goal.returns-then-not-clauses_fit
 returns-then-not-clauses_fit c =
-    record {
-      is = held_by c.args.entries.now c.args.clauses.now c.args.declarations.now c.in-Some.totals c.in-Some.ensures _ c.if-not-clauses_fit.ensures;
-      counted = tt;
-    }
+    let e : Some c.in_ok-totals.totals ≡ surveyed (length c.args.entries.now) none c.args.declarations.now = search rules in
+    held_by c.args.entries.now c.args.clauses.now c.args.declarations.now c.in_ok-totals.totals e _ c.if-not-clauses_fit.ensures
 
-pub returns : goal.returns
-returns c =
-    let n = counts c.args.entries.now c.args.clauses.now c.args.declarations.now c.in-Some.totals c.in-Some.ensures in
-    record {
-      is = held_by c.args.entries.now c.args.clauses.now c.args.declarations.now c.in-Some.totals c.in-Some.ensures _ c.if-not-clauses_fit.ensures;
-      counted = record {
-        constants_are = n.0;
-        globals_are = n.1;
-        procedures_are = n.2;
-        constants_most = n.3;
-        globals_most = n.4;
-        procedures_most = n.5;
-      };
-    }
+pub invariant_of-result : goal.invariant_of-result
+invariant_of-result c =
+    let e : Some c.in_ok-totals.totals ≡ surveyed (length c.args.entries.now) none c.args.declarations.now = search rules in
+    let n = counts c.args.entries.now c.args.clauses.now c.args.declarations.now c.in_ok-totals.totals e in
+    record { constants_are = n.0; globals_are = n.1; procedures_are = n.2; within = n.3 }

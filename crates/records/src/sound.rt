@@ -1,0 +1,17 @@
+ghost use Rattle.records.specs.Book.{constants, globals, procedures};
+ghost use Rattle.records.specs.Held.{book_of};
+ghost use Rattle.records.specs.Sizes.{few};
+ghost use Rattle.std.specs.Prelude.{◌≡◌, true, length};
+
+use crate::lists::{HeldBook, Totals};
+
+/// A held book whose records point inside their table and are within the limits, with its totals.
+#[derive(Clone, Copy)]
+pub struct SoundBook<'a> {
+    pub held: HeldBook<'a>,
+    pub totals: Totals,
+    pub ghost constants_are: { totals.constants ≡ length (constants (book_of held)) },
+    pub ghost globals_are: { totals.globals ≡ length (globals (book_of held)) },
+    pub ghost procedures_are: { totals.procedures ≡ length (procedures (book_of held)) },
+    pub ghost within: { few totals ≡ true },
+}
