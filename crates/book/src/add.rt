@@ -13,10 +13,10 @@ fn copy_entries(into: &mut [Entry], left: &[u32], right: &[u32])
     requires { (length left.now ≡ length into.old) × (length right.now ≡ length into.old) }
     ensures { into.new ≡ paired left.now right.now }
 {
-    for i in 0..left.len() {
+    for (i, (left, right)) in left.iter().zip(right).enumerate() {
         into[i] = Entry {
-            left: left[i],
-            right: right[i],
+            left: *left,
+            right: *right,
         };
     }
 }
@@ -62,6 +62,8 @@ impl Open {
     }
 
     /// Adds a clause record and its entries.
+    // Apart from `add_declaration`, since the records have other fields and lie in another list: what is the same in both
+    // is `write_page`.
     pub(crate) fn add_clause(
         &mut self,
         lists: &mut Lists,

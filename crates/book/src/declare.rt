@@ -57,6 +57,7 @@ impl Open {
     }
 
     /// Is no clause record left, or no room for the page's entries?
+    // Apart from `lacks_declaration`, since it looks at another list and another count: what is the same is `is_overfull`.
     fn lacks_clause(&self, lists: &Lists, page: Page) -> bool
         ensures { result ≡ no_clause_left self.now.counts (stored lists.now) (shown page.entry) }
     {
@@ -91,6 +92,8 @@ impl Open {
     }
 
     /// Judges a clause.
+    // Apart from `judge_declaration`, as `declare_clause` is from `declare_names`: a declaration is answered by a number, and
+    // a clause by its procedure too. A trait for both would have a ghost member for each step, and be longer than the two.
     fn judge_clause(
         &self,
         lists: &Lists,
@@ -142,6 +145,8 @@ impl Open {
     ///
     /// Kinds: 3 constants, 4 globals, 6 a procedure, 7 an axiom, 8 a requires, 9 an ensures and 10 a modifies clause.
     /// The answer is the number of the first thing added, or the clause's number among those of its kind and procedure.
+    // Plain numbers, as front ends hand them in: what they stand for is the call's to find out, or to refuse. That the lists
+    // stay the caller's own (`lent`) relates what is before a call to what is after it, which no field could say.
     pub fn declare(
         &mut self,
         lists: &mut Lists,

@@ -24,6 +24,7 @@ pub(crate) struct Request<'a> {
 pub(crate) struct Declaring<'a> {
     pub(crate) book: SoundBook<'a>,
     /// Do the records or the entries that are left not suffice?
+    // Asked beforehand and kept, since the rules, which know no lists, look at it in the midst of their grounds.
     pub(crate) full: bool,
     pub(crate) request: Request<'a>,
 }

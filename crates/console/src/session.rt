@@ -82,6 +82,7 @@ pub(crate) fn answer_lines<W: Write>(
 }
 
 /// Makes the call of a line.
+// The stage is moved and the lists are lent, here and below, since a book's states move and its lists are its caller's.
 fn answer_line(
     stage: Stage,
     lists: &mut Lists,

@@ -12,6 +12,7 @@ use language::ValueType;
 use page::Entry;
 
 /// Checks that the entries of these left and right numbers are one bool expression.
+// Two slices and no page: what is checked need not be a page that was read, and the shorter one says where it ends.
 pub fn check_page(scope: &Scope, left: &[u32], right: &[u32]) -> Result<(), Cause>
     ensures is { result ≡ checked (scope_of scope.now) (paired left.now right.now) }
     ensures exact { length (paired left.now right.now) ≤ 1024 → Decides (is_ok result) (Postfix (scope_of scope.now) (paired left.now right.now) bool) }

@@ -137,6 +137,7 @@ fn call_of_kind(kind: CallKind, arguments: &[u32]) -> Result<Call<'_>, LineError
 }
 
 /// Declare: a kind, a name, and the page, which is the rest of the line.
+// A function for each call that has arguments, since each takes other numbers from the front of the line.
 fn declare_call(arguments: &[u32]) -> Result<Call<'_>, LineError>
     ensures { result_map_both shown the_error result ≡ declare_of arguments.now }
 {

@@ -32,6 +32,7 @@ impl WordError {
 }
 
 /// The number that a word of decimal digits stands for.
+// By hand, since the library's parse takes a leading plus and does not tell what is no digit from what is too large.
 #[tactic(auto, using(crate::proofs::Digits::goes))]
 pub fn parse_word(word: &[u8]) -> Result<u32, WordError>
     ensures { result ≡ word_of word.now }

@@ -3,6 +3,7 @@ use Rattle.std.proofs.Common.{◌≡◌, ℕ, zero, suc, ◌+◌, ◌<◌, List,
 use Rattle.std.specs.List.{slice_get}
 use Rattle.std.proofs.lemmas.List.{length-drop, get_or-drop}
 use Rattle.std.proofs.lemmas.Option.{none-some}
+use Rattle.std.proofs.lemmas.Slice.Zip.{AllZip-long}
 use Rattle.language.specs.Lists.{Alike}
 use Rattle.meaning.specs.Lists.{put, counted}
 
@@ -43,10 +44,7 @@ module _ {A B : Type 0} (R : A → B → Type 0) where
 
   -- They are of one length.
   pub alike-length : (xs : List A) (ys : List B) → Alike R xs ys → length xs ≡ length ys
-  alike-length [] [] h = refl
-  alike-length [] (y ∷ ys) h = absurd h
-  alike-length (x ∷ xs) [] h = absurd h
-  alike-length (x ∷ xs) (y ∷ ys) h = ap suc (alike-length xs ys h.1)
+  alike-length xs ys h = sym (AllZip-long R xs ys h)
 
   -- The first part of a counted list.
   pub counted_left : (f : ℕ → B) (n : ℕ) (xs ys : List A) → Alike R (xs ++ ys) (counted f n (length (xs ++ ys))) → Alike R xs (counted f n (length xs))

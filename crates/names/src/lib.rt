@@ -28,6 +28,7 @@ fn is_type(number: u32) -> bool
 }
 
 /// How many of these numbers come before the first that is no name.
+// A count and no `Option` of an index, here and below: it is the library's `prefix_len`, which rules and contracts say.
 pub fn leading_names(numbers: &[u32]) -> usize
     ensures { result ≡ prefix_len is_name numbers.now }
 {

@@ -21,6 +21,7 @@ pub struct Part<'a> {
 }
 
 /// A page, read: its two sizes, and the left and the right numbers of its a + b entries.
+// Two halves and no list of entries, since they are parts of the page's own numbers, as the page's form has them.
 #[derive(Clone, Copy)]
 pub struct Page<'a> {
     pub a: u32,

@@ -109,6 +109,7 @@ fn clauses_fit(clauses: &[Clause], count: usize, procedures: usize) -> bool
     requires { procedures ≤ 64 }
     ensures { result ≡ clauses_fit count procedures [] clauses.now }
 {
+    // An array with a row for each kind and procedure, and no map, since nothing here allocates.
     let mut tally = [0usize; 193];
     for clause in clauses {
         if !clause.lies(count, procedures) {

@@ -18,6 +18,8 @@ pub enum ClauseKind {
 }
 
 /// A declaration: its kind, its name (0 but for procedures), and its a + b entries, from `start` on in the table of entries.
+// A place in the table and no list of its own, since the entries of all records lie in one lent slice. The name is the
+// number that the call was given, whose rule is that it is 0 for constants and globals.
 #[derive(Clone, Copy)]
 pub struct Declaration {
     pub kind: DeclarationKind,
@@ -28,6 +30,8 @@ pub struct Declaration {
 }
 
 /// A clause: its kind, the number of its procedure (0 for axioms), and its entries, from `start` on in the table of entries.
+// Kind and procedure stand apart, and no procedure within the kind, since limits, tallies and look-ups ask for them apart;
+// that of an axiom is not looked at.
 #[derive(Clone, Copy)]
 pub struct Clause {
     pub kind: ClauseKind,
@@ -37,6 +41,7 @@ pub struct Clause {
 }
 
 /// The lists in which the book's records lie. The caller lends them to each call.
+// Lent slices, since nothing here allocates: how many of their records are in use stands beside them, in `Counts`.
 #[derive(Drop)]
 pub struct Lists<'a> {
     pub declarations: &'a mut [Declaration],

@@ -9,7 +9,6 @@ mod suited;
 ghost use Rattle.std.specs.List.{All};
 ghost use Rattle.std.specs.Prelude.{◌+◌, ◌≤◌, length, take};
 
-pub use reading::Listing;
 use world::Carrier;
 
 /// One entry: its operands are so many places from the first on.

@@ -1,6 +1,6 @@
 //! What a term list is to those who read its entries.
 ghost use Rattle.std.specs.Prelude.{◌≡◌, ℕ, true};
-ghost use Rattle.terms.specs.Held.{Held, spare_of, value_of};
+ghost use Rattle.terms.specs.Held.{spare_of, value_of};
 ghost use Rattle.terms.specs.Steps.{held};
 ghost use Rattle.world.specs.Worlds.{Reading};
 
@@ -8,24 +8,14 @@ use crate::Terms;
 use sink::Sink;
 use world::Carrier;
 
-/// A sink over records: it watches every reading over its carrier and takes every code.
-/// Its entries' values and its spare are computed from what it holds.
-pub trait Listing: Sink {
-    /// What it holds.
-    ghost holds: { Self → Held };
-
-    /// Does nothing: its contract says what the sink watches and takes, and what its values are.
-    fn watched(&self)
-        ensures watches { (q : Reading Self.Sink.Value) → Self.Sink.watches self.now q }
-        ensures values { (q : Reading Self.Sink.Value) (k : ℕ) → Self.Sink.value self.now q k ≡ value_of (holds self.now) q k }
-        ensures codes { (c : ℕ) → Self.Sink.takes self.now c ≡ true }
-        ensures entries { Self.Sink.entries self.now ≡ (holds self.now).used }
-        ensures spare { Self.Sink.spare self.now ≡ spare_of (holds self.now) };
-}
-
-/// Every term list is one, whatever its carrier.
-impl<'a, C: Carrier + Drop> Listing for Terms<'a, C> {
-    ghost holds = { λ s. held s };
-
-    fn watched(&self) {}
+impl<'a, C: Carrier + Drop> Terms<'a, C> {
+    /// Does nothing: its contract says what a term list watches and takes as a sink, and what its entries' values and
+    /// its spare are.
+    pub fn watched(&self)
+        ensures watches { (q : Reading C.Carrier.Value) → ⟦<Terms<'a, C> as Sink>⟧.watches self.now q }
+        ensures values { (q : Reading C.Carrier.Value) (k : ℕ) → ⟦<Terms<'a, C> as Sink>⟧.value self.now q k ≡ value_of (held self.now) q k }
+        ensures codes { (c : ℕ) → ⟦<Terms<'a, C> as Sink>⟧.takes self.now c ≡ true }
+        ensures entries { ⟦<Terms<'a, C> as Sink>⟧.entries self.now ≡ self.now.used }
+        ensures spare { ⟦<Terms<'a, C> as Sink>⟧.spare self.now ≡ spare_of (held self.now) }
+    {}
 }

@@ -1,7 +1,12 @@
-use Rattle.std.proofs.Common.{◌≡◌, ◌++◌, take, drop}
+use Rattle.std.proofs.Common.{◌≡◌, ◌+◌, ◌++◌, length, take}
+use Rattle.std.specs.Slice.Iter.{iter_rest}
 use Rattle.page.specs.Pages.{paired}
 use Rattle.book.proofs.add.copy_entries.Given as goal
 
 abbrev pub invariant-loop-i : goal.invariant-loop-i
 invariant-loop-i l =
-    take l.i l.into ++ paired (drop l.i l.left) (drop l.i l.right) ≡ paired l.left l.right
+    let it = l.i-iterator in
+    (length l.into ≡ length l.left)
+    × (it.count + length (iter_rest it.iter.a) ≡ length l.left)
+    × (length (iter_rest it.iter.b) ≡ length (iter_rest it.iter.a))
+    × (take it.count l.into ++ paired (iter_rest it.iter.a) (iter_rest it.iter.b) ≡ paired l.left l.right)
