@@ -83,11 +83,6 @@ abbrev pub accepting : {A : Type 0} → Option Cause → A → Result A Cause
 accepting None a = Ok a
 accepting (Some cause) a = Err cause
 
--- The book that the lists hold, where the sizes suit the call.
-abbrev pub book_for : Bool → Counts → Stored → Result Book Cause
-book_for suits n st =
-    cond suits (elim (held_in n st) [ Some b ↦ Ok b | None ↦ Err (Call Lists) ]) (Err (Call Form))
-
 -- First the sizes are looked at, then whether the lists hold a book, and then the rule.
 abbrev pub verdict : {A : Type 0} → Bool → Counts → Stored → (Book → Result A Cause) → Result A Cause
 verdict suits n st rule =
@@ -127,13 +122,15 @@ clause_ruled Requires name p full b = accepting (condition_rule Requires name p 
 clause_ruled Ensures name p full b = accepting (condition_rule Ensures name p full b) (stating Ensures name b)
 clause_ruled Modifies name p full b = accepting (modifies_rule name p full b) (stating Modifies name b)
 
+-- What is said of a declaration.
 abbrev pub declaration_verdict : DeclarationKind → ℕ → Sheet → Counts → Stored → Result ℕ Cause
 declaration_verdict kind name p n st = verdict (sizes_suit kind p) n st (λ b. declaration_ruled kind name p (no_declaration_left n st p) b)
 
--- No clause's page has a second size.
+-- What is said of a clause, whose page has no second size.
 abbrev pub clause_verdict : ClauseKind → ℕ → Sheet → Counts → Stored → Result Stating Cause
 clause_verdict kind name p n st = verdict (p.b == 0) n st (λ b. clause_ruled kind name p (no_clause_left n st p) b)
 
+-- What a call of a kind ends with.
 abbrev pub declared_as : Kind → ℕ → Counts → Stored → Sheet → Ended
 declared_as (Declaration kind) name n st p = declaration_ended kind (name_for kind name) p n st (declaration_verdict kind name p n st)
 declared_as (Clause kind) name n st p = clause_ended kind p n st (clause_verdict kind name p n st)

@@ -8,12 +8,14 @@ use crate::states::Open;
 use page::{Entry, Page};
 use records::lists::{Clause, ClauseKind, Declaration, DeclarationKind, Lists};
 
-/// Copies left and right numbers, entry by entry.
-fn copy_entries(into: &mut [Entry], left: &[u32], right: &[u32])
-    requires { (length left.now ≡ length into.old) × (length right.now ≡ length into.old) }
-    ensures { into.new ≡ paired left.now right.now }
+/// Copies a page's left and right numbers, entry by entry.
+// By an index into what is written, since std says nothing of the elements that `iter_mut` gives beside another iterator.
+fn copy_entries(into: &mut [Entry], page: Page)
+    requires { page.a + page.b ≡ length into.old }
+    ensures { into.new ≡ entries_of (shown page.entry) }
 {
-    for (i, (left, right)) in left.iter().zip(right).enumerate() {
+    let pairs = page.left.numbers.iter().zip(page.right.numbers);
+    for (i, (left, right)) in pairs.enumerate() {
         into[i] = Entry {
             left: *left,
             right: *right,
@@ -21,20 +23,20 @@ fn copy_entries(into: &mut [Entry], left: &[u32], right: &[u32])
     }
 }
 
-/// Writes a page's entries from a place on.
-fn write_page(entries: &mut [Entry], start: usize, page: Page)
-    requires { start + (page.a + page.b) ≤ length entries.old }
-    ensures { entries.new ≡ written entries.old start (entries_of (shown page.entry)) }
-{
-    let end = start + page.left.numbers.len();
-    copy_entries(
-        &mut entries[start..end],
-        page.left.numbers,
-        page.right.numbers,
-    );
-}
-
 impl Open {
+    /// Writes a page's entries behind those in use.
+    fn add_entries(&mut self, entries: &mut [Entry], page: Page)
+        requires fits { self.old.counts.entries + (page.a + page.b) ≤ 65536 }
+        requires room { self.old.counts.entries + (page.a + page.b) ≤ length entries.old }
+        ensures counts { self.new.counts ≡ record self.old.counts { entries = self.old.counts.entries + (page.entry.a + page.entry.b) } }
+        ensures written { entries.new ≡ written entries.old self.old.counts.entries (entries_of (shown page.entry)) }
+    {
+        let start = self.counts.entries as usize;
+        let end = start + page.left.numbers.len();
+        copy_entries(&mut entries[start..end], page);
+        self.counts.entries += page.a + page.b;
+    }
+
     /// Adds a declaration record and its entries.
     pub(crate) fn add_declaration(
         &mut self,
@@ -56,14 +58,13 @@ impl Open {
             a: page.a,
             b: page.b,
         };
-        write_page(lists.entries, self.counts.entries as usize, page);
         self.counts.declarations += 1;
-        self.counts.entries += page.a + page.b;
+        self.add_entries(lists.entries, page);
     }
 
     /// Adds a clause record and its entries.
     // Apart from `add_declaration`, since the records have other fields and lie in another list: what is the same in both
-    // is `write_page`.
+    // is `add_entries`.
     pub(crate) fn add_clause(
         &mut self,
         lists: &mut Lists,
@@ -83,8 +84,7 @@ impl Open {
             start: self.counts.entries,
             count: page.a + page.b,
         };
-        write_page(lists.entries, self.counts.entries as usize, page);
         self.counts.clauses += 1;
-        self.counts.entries += page.a + page.b;
+        self.add_entries(lists.entries, page);
     }
 }

@@ -4,7 +4,8 @@ ghost use Rattle.book.specs.Declare.{accepting, clause_ruled, stating};
 ghost use Rattle.names.specs.NameGroups.{names_in};
 ghost use Rattle.book.specs.Rules.{axiom_rule, condition_rule, modified_so_far, modifies_rule, nobody, scope_for, stated_for};
 ghost use Rattle.expression.specs.Scopes.{scope_of};
-ghost use Rattle.page.specs.Pages.{shown};
+ghost use Rattle.language.specs.Checking.{checked};
+ghost use Rattle.page.specs.Pages.{entries_of, shown};
 ghost use Rattle.records.specs.Book.{clauses_of, procedure_named};
 ghost use Rattle.records.specs.Found.{numbered};
 ghost use Rattle.records.specs.Held.{book_of};
@@ -20,9 +21,11 @@ use expression::scope::Scope;
 use fault::refuse::{refuse_call, refuse_entry};
 use fault::{Cause, Ground};
 use names::{NameGroup, is_name, leading_bare_names};
+use page::Page;
 use records::lists::{ClauseKind, Procedure};
 
-/// A clause that was accepted: the number of its procedure, and its own among those of its kind.
+/// A clause that was accepted: the number of its procedure (0 for axioms), and its own among those of its kind.
+// 0 and no `Option`, as the clause's record has it.
 #[derive(Clone, Copy)]
 pub(crate) struct Stating {
     pub(crate) procedure: u32,
@@ -70,6 +73,7 @@ impl<'a> Declaring<'a> {
     }
 
     /// How many clauses of a kind the procedure has, if there is one.
+    // A match and no `map_or`: what a closure that looks into the book answers was not proved there.
     fn count_for(&self, kind: ClauseKind, found: Option<Procedure>) -> usize
         ensures { result ≡ stated_for kind (option_map numbered found.entry) (held_by self.now.book) }
     {
@@ -77,6 +81,14 @@ impl<'a> Declaring<'a> {
             Some(procedure) => self.book.held.count_clauses(kind, procedure.number),
             None => 0,
         }
+    }
+
+    /// Checks the page as an expression.
+    fn check_expression(&self, scope: &Scope) -> Result<(), Cause>
+        ensures { result ≡ checked (scope_of scope.now) (entries_of (shown self.now.request.page)) }
+    {
+        let Page { left, right, .. } = self.request.page;
+        check_page(scope, left.numbers, right.numbers)
     }
 
     /// The rule for an axiom.
@@ -89,11 +101,7 @@ impl<'a> Declaring<'a> {
             ClauseKind::Axiom.is_full(number) || self.full,
             Ground::Limit,
         )?;
-        check_page(
-            &self.axiom_scope(),
-            self.request.page.left.numbers,
-            self.request.page.right.numbers,
-        )?;
+        self.check_expression(&self.axiom_scope())?;
         Ok(Stating {
             procedure: 0,
             number,
@@ -110,11 +118,7 @@ impl<'a> Declaring<'a> {
         let number = self.count_for(clause, found);
         refuse_call(clause.is_full(number) || self.full, Ground::Limit)?;
         let procedure = found.ok_or(Cause::Call(Ground::UnknownProcedure))?;
-        check_page(
-            &self.condition_scope(kind, procedure),
-            self.request.page.left.numbers,
-            self.request.page.right.numbers,
-        )?;
+        self.check_expression(&self.condition_scope(kind, procedure))?;
         Ok(Stating {
             procedure: procedure.number as u32,
             number,
@@ -151,6 +155,7 @@ impl<'a> Declaring<'a> {
             number: self.count_for(ClauseKind::Modifies, found),
         })
     }
+
     /// The rule for a clause.
     pub(crate) fn clause(&self, kind: ClauseKind) -> Result<Stating, Cause>
         ensures { result ≡ clause_ruled kind self.now.request.name (shown self.now.request.page) self.now.full (held_by self.now.book) }

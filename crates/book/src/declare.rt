@@ -1,10 +1,8 @@
-ghost use Rattle.book.specs.Declare.{ClauseRoom, DeclarationRoom, Ended, book_for, clause_verdict, declaration_verdict, declared, declared_as, name_for, new_book, no_clause_left, no_declaration_left, overfull, settled, sizes_suit};
+ghost use Rattle.book.specs.Declare.{ClauseRoom, DeclarationRoom, Ended, clause_verdict, declaration_verdict, declared, declared_as, name_for, new_book, no_clause_left, no_declaration_left, overfull, settled, sizes_suit};
 ghost use Rattle.book.specs.declared.kinds.Kind.TheVariants.{Clause, Declaration};
 ghost use Rattle.page.specs.Pages.{shown};
 ghost use Rattle.records.specs.Held.{Same, stored};
-ghost use Rattle.records.specs.Sound.{shown as held_by};
 ghost use Rattle.std.specs.Prelude.{◌≡◌, OnOk};
-ghost use Rattle.std.specs.Result.{result_map_both};
 
 use crate::clauses::Stating;
 use crate::kinds::Kind;
@@ -15,7 +13,6 @@ use fault::{Cause, Fault, Ground};
 use page::Page;
 use records::guard::held;
 use records::lists::{ClauseKind, Counts, DeclarationKind, Lists};
-use records::sound::SoundBook;
 
 /// Do the page's sizes suit such a declaration?
 fn sizes_suit(kind: DeclarationKind, page: Page) -> bool
@@ -33,11 +30,7 @@ impl Open {
         ensures { result ≡ new_book }
     {
         Open {
-            counts: Counts {
-                declarations: 0,
-                clauses: 0,
-                entries: 0,
-            },
+            counts: Counts::default(),
         }
     }
 
@@ -64,14 +57,6 @@ impl Open {
         lists.clauses.len() <= self.counts.clauses || self.is_overfull(lists, page)
     }
 
-    /// The book that the lists hold, where the page's sizes suit the call.
-    fn sound_book<'a>(&self, lists: &'a Lists, suits: bool) -> Result<SoundBook<'a>, Cause>
-        ensures { result_map_both held_by (λ c. c) result ≡ book_for suits self.now.counts (stored lists.now) }
-    {
-        refuse_call(!suits, Ground::Form)?;
-        held(lists, self.counts).ok_or(Cause::Call(Ground::Lists))
-    }
-
     /// Judges constants, globals or a procedure.
     fn judge_declaration(
         &self,
@@ -83,8 +68,9 @@ impl Open {
         ensures named { OnOk result (name_for kind request.entry.name ≡ request.entry.name) }
         ensures room { OnOk result (DeclarationRoom self.now.counts (stored lists.now) (shown request.entry.page)) }
     {
+        refuse_call(!sizes_suit(kind, request.page), Ground::Form)?;
         let declaring = Declaring {
-            book: self.sound_book(lists, sizes_suit(kind, request.page))?,
+            book: held(lists, self.counts).ok_or(Cause::Call(Ground::Lists))?,
             full: self.lacks_declaration(lists, request.page),
             request,
         };
@@ -103,8 +89,9 @@ impl Open {
         ensures is { result ≡ clause_verdict kind request.entry.name (shown request.entry.page) self.now.counts (stored lists.now) }
         ensures room { OnOk result (ClauseRoom self.now.counts (stored lists.now) (shown request.entry.page)) }
     {
+        refuse_call(request.page.b != 0, Ground::Form)?;
         let declaring = Declaring {
-            book: self.sound_book(lists, request.page.b == 0)?,
+            book: held(lists, self.counts).ok_or(Cause::Call(Ground::Lists))?,
             full: self.lacks_clause(lists, request.page),
             request,
         };

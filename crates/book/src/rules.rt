@@ -13,6 +13,7 @@ use records::lists::DeclarationKind;
 use records::sound::SoundBook;
 
 /// What is asked to be declared: its name, or the procedure's whose clause it is, and its page.
+// Without the kind, which has one type for declarations and another for clauses.
 #[derive(Clone, Copy)]
 pub(crate) struct Request<'a> {
     pub(crate) name: u32,
@@ -96,6 +97,7 @@ impl Declaring<'_> {
         refuse_entry(Ground::UnknownType, left, leading_types(types))?;
         Ok(self.count_of(DeclarationKind::Procedure))
     }
+
     /// The rule for a declaration.
     pub(crate) fn declaration(&self, kind: DeclarationKind) -> Result<usize, Cause>
         ensures { result ≡ declaration_ruled kind self.now.request.name (shown self.now.request.page) self.now.full (held_by self.now.book) }

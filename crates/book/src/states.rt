@@ -1,5 +1,7 @@
 use records::lists::Counts;
 
+// Two types of the same numbers, since the type is the state: only an open book has the calls that declare.
+
 /// A book that takes declarations: how many records of each list are in use.
 #[derive(Drop)]
 pub struct Open {

@@ -66,9 +66,9 @@ pub(crate) fn answer_lines<W: Write>(
     };
     let mut stage = Stage::Open(Open::new());
     let mut numbers = Vec::new(heap);
-    for (words, line) in text.lines().zip(1..) {
+    for (written, line) in text.lines().zip(1..) {
         numbers.clear();
-        parse_numbers(line, words, &mut numbers)?;
+        parse_numbers(line, written, &mut numbers)?;
         if !numbers.is_empty() {
             let answer = answer_line(stage, &mut lists, numbers.as_slice());
             let (next, outcome) = answer.map_err(|error| Failure::Line { line, error })?;
@@ -82,7 +82,7 @@ pub(crate) fn answer_lines<W: Write>(
 }
 
 /// Makes the call of a line.
-// The stage is moved and the lists are lent, here and below, since a book's states move and its lists are its caller's.
+// The stage and the lists are no one struct, here and below: each call moves the stage on, and is only lent the lists.
 fn answer_line(
     stage: Stage,
     lists: &mut Lists,

@@ -81,6 +81,7 @@ fn declare_after<F: FnOnce(&mut Held)>(damage: F) -> Option<Result<usize, Fault>
         lent: WHOLE,
     };
     let mut book = Open::new();
+    // Lists are made where they are used, here and after the damage: a method of `Held` could not hand out what it borrows.
     let mut lists = Lists {
         declarations: &mut held.declarations,
         clauses: &mut held.clauses,

@@ -10,7 +10,7 @@ use records::find::find_type;
 use records::lists::{DeclarationKind, HeldBook};
 
 /// What names mean in a place: locals, then parameters, then globals where they may be used, then constants.
-// Each of the two bools may be set without the other: an enum in their place would have the same four cases.
+// Two bools and no enum of three cases: callers may set either without the other, and names have a meaning then too.
 #[derive(Clone, Copy)]
 pub struct Scope<'a> {
     pub book: HeldBook<'a>,
@@ -24,7 +24,7 @@ pub struct Scope<'a> {
 
 impl Scope<'_> {
     /// The type of the global or the constant of that name.
-    // A match, since a proof learns nothing of what a closure over a record of slices returns.
+    // A match and no `or_else`, here and in `find`: what a closure that looks into the book answers was not proved there.
     #[tactic(auto, using(crate::proofs::Scoped::found_first, crate::proofs::Scoped::found_later))]
     fn find_value(&self, name: u32) -> Option<ValueType>
         ensures { result ≡ type_of name (values_in self.now) }

@@ -1,4 +1,4 @@
--- The number of each ground, and the four numbers that a refusal gives.
+-- The number of each ground, and the four numbers that a refusal gives, with the text that says them.
 use Rattle.std.specs.Prelude.{ℕ, List, ◌++◌, Option, None, codes, decimal}
 use Rattle.std.specs.Option.{unwrap_or}
 use Rattle.fault.specs.declared.Ground.{Ground}

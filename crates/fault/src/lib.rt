@@ -12,47 +12,47 @@ use std::fmt;
 #[derive(Clone, Copy, Debug, PartialEq, Eq)]
 pub enum Ground {
     /// The kind is unknown, the page has not the form of one, or its sizes do not suit the call.
-    Form,
+    Form = 1,
     /// A lent list is too short, or a record in use points outside its table or is over a limit.
-    Lists,
+    Lists = 2,
     /// A name is out of range, or a number that must be 0 is not.
-    Naming,
+    Naming = 3,
     /// A limit of the book or of the body, or the length of a list, would be passed.
-    Limit,
+    Limit = 4,
     /// A name is taken, or stands twice.
-    Taken,
+    Taken = 5,
     /// There is no such type.
-    UnknownType,
+    UnknownType = 6,
     /// There is no procedure of that name.
-    UnknownProcedure,
+    UnknownProcedure = 7,
     /// The code does not belong here, or its right number should be 0.
-    Code,
+    Code = 8,
     /// The identifier or the procedure may not be used here.
-    NotUsable,
+    NotUsable = 9,
     /// Too few values wait.
-    TooFewWaiting,
+    TooFewWaiting = 10,
     /// More than 1,024 values wait.
-    TooManyWaiting,
+    TooManyWaiting = 11,
     /// The waiting types do not suit the code.
-    WrongTypes,
+    WrongTypes = 12,
     /// Values remain at a command or at the end, or receivers stand before no call.
-    Remaining,
+    Remaining = 13,
     /// A changed name is a constant or an in-parameter.
-    Unchangeable,
+    Unchangeable = 14,
     /// A changed global, or one that the callee modifies, is not in the procedure's modifies clauses.
-    NotModified,
+    NotModified = 15,
     /// The receivers of a call repeat, or their number is wrong.
-    Receivers,
+    Receivers = 16,
     /// The body has no block.
-    NoBlock,
+    NoBlock = 17,
     /// A target names no block of the body.
-    UnknownTarget,
+    UnknownTarget = 18,
     /// A target is its own block or an earlier one.
-    EarlierTarget,
+    EarlierTarget = 19,
     /// The work list is too short.
-    WorkList,
+    WorkList = 20,
     /// The sink refused a tell.
-    SinkRefused,
+    SinkRefused = 21,
 }
 
 /// Where in a page.
@@ -92,33 +92,11 @@ impl From<Ground> for u32 {
     ghost from_gives = { λ g n. n ≡ number_of g };
 
     fn from(ground: Ground) -> u32 {
-        match ground {
-            Ground::Form => 1,
-            Ground::Lists => 2,
-            Ground::Naming => 3,
-            Ground::Limit => 4,
-            Ground::Taken => 5,
-            Ground::UnknownType => 6,
-            Ground::UnknownProcedure => 7,
-            Ground::Code => 8,
-            Ground::NotUsable => 9,
-            Ground::TooFewWaiting => 10,
-            Ground::TooManyWaiting => 11,
-            Ground::WrongTypes => 12,
-            Ground::Remaining => 13,
-            Ground::Unchangeable => 14,
-            Ground::NotModified => 15,
-            Ground::Receivers => 16,
-            Ground::NoBlock => 17,
-            Ground::UnknownTarget => 18,
-            Ground::EarlierTarget => 19,
-            Ground::WorkList => 20,
-            Ground::SinkRefused => 21,
-        }
+        ground as u32
     }
 }
 
-/// A check's refusal, where there is no block.
+/// The refusal of a call that no block is part of.
 impl From<Cause> for Fault {
     ghost from_gives = { λ c f. f ≡ without_block c };
 

@@ -14,6 +14,7 @@ pub fn refuse_call(test: bool, reason: Ground) -> Result<(), Cause>
 }
 
 /// Refuses the entry at an index, where there is one.
+// An index and no `Option`: counts of leading entries come in as they are, and the length stands for none.
 pub fn refuse_entry(reason: Ground, left: &[u32], index: usize) -> Result<(), Cause>
     ensures { refusal result ≡ on_entry reason left.now index }
 {

@@ -20,6 +20,7 @@ pub enum CallKind {
 }
 
 /// A call with its arguments. The pages are parts of the line's numbers.
+// Plain numbers, as the library's calls take them.
 #[derive(Clone, Copy, Debug, PartialEq, Eq)]
 pub enum Call<'a> {
     Declare {

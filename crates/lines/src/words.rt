@@ -3,19 +3,17 @@ ghost use Rattle.lines.specs.Words.{error_at, word_of};
 ghost use Rattle.std.specs.Prelude.{◌≡◌};
 
 use crate::errors::LineError;
-use thiserror::Error;
 
 /// Anything from here on is too large; the sum of a word's digits stays here once it comes so far.
 const TOO_LARGE: u64 = 4_294_967_296;
 
 /// Why a word is no number that the program takes.
-#[derive(Clone, Copy, Debug, PartialEq, Eq, Error)]
+// Beside the two cases of `LineError`, which say the word's place too: a word does not know it.
+#[derive(Clone, Copy, Debug, PartialEq, Eq)]
 pub enum WordError {
     /// It is empty, or has something else than digits.
-    #[error("not a number")]
     NotNumber,
     /// It is above 4,294,967,295.
-    #[error("above 4294967295")]
     TooLarge,
 }
 

@@ -28,7 +28,7 @@ fn is_type(number: u32) -> bool
 }
 
 /// How many of these numbers come before the first that is no name.
-// A count and no `Option` of an index, here and below: it is the library's `prefix_len`, which rules and contracts say.
+// A count and no `Option` of an index, here and below: it is std's `prefix_len`, by which the rules are said.
 pub fn leading_names(numbers: &[u32]) -> usize
     ensures { result ≡ prefix_len is_name numbers.now }
 {

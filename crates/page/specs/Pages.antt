@@ -1,5 +1,5 @@
 -- What a page of numbers is, and what the reader shows of it.
-use Rattle.std.specs.Prelude.{◌≡◌, ℕ, ◌+◌, ◌*◌, ◌≤◌, Bool, cond, ◌&&◌, List, [], ◌∷◌, length, take, drop, Some, None, Option, ◌==◌, nat_le, slice_index}
+use Rattle.std.specs.Prelude.{ℕ, ◌+◌, ◌*◌, Bool, cond, ◌&&◌, List, [], ◌∷◌, length, take, drop, Some, None, Option, ◌==◌, nat_le, slice_index}
 use Rattle.page.specs.declared.Entry.{Entry}
 use Rattle.page.specs.declared.Page.{Page}
 use Rattle.page.specs.declared.Part.{Part}
@@ -41,13 +41,6 @@ page_with a b rest = cond (formed a b rest) (Some (sheet_of a b rest)) None
 -- The page in these numbers, if they have the form of one.
 abbrev pub page_of : List ℕ → Option Sheet
 page_of numbers = cond (nat_le 2 (length numbers)) (page_with (slice_index numbers 0) (slice_index numbers 1) (drop 2 numbers)) None
-
--- Both halves have a number for each entry, and there are at most 1,024: so it is of every page that was read.
-abbrev pub Whole : Page → Type 0
-Whole p =
-    (length p.left.numbers.now ≡ p.a + p.b)
-    × (length p.right.numbers.now ≡ p.a + p.b)
-    × (p.a + p.b ≤ 1024)
 
 -- The left and right numbers, entry by entry.
 abbrev pub paired : List ℕ → List ℕ → List Entry

@@ -44,7 +44,11 @@ impl<'a> HeldBook<'a> {
     fn entries_if(&self, test: bool, start: u32, count: usize) -> &'a [Entry]
         ensures { result.now ≡ cond test (take count (drop start self.now.entries.now)) [] }
     {
-        part(self.entries, start as usize, if test { count } else { 0 })
+        if test {
+            part(self.entries, start as usize, count)
+        } else {
+            &[]
+        }
     }
 
     /// The entries of a declaration, if it is of this kind; else none.
@@ -70,6 +74,7 @@ impl<'a> HeldBook<'a> {
     }
 
     /// The type of the first constant, or global, of that name.
+    // A loop, since std says of `find_map` which calls it made, and not yet what it answers.
     pub fn find_declared(&self, kind: DeclarationKind, name: u32) -> Option<ValueType>
         ensures { result ≡ type_of name (declared_as kind (book_of self.now).declarations) }
     {

@@ -124,26 +124,16 @@ fn clauses_fit(clauses: &[Clause], count: usize, procedures: usize) -> bool
     true
 }
 
-/// The book in these records; `None` where one points outside its table or is over a limit.
-fn sound_book<'a>(
-    declarations: &'a [Declaration],
-    clauses: &'a [Clause],
-    entries: &'a [Entry],
-) -> Option<SoundBook<'a>>
-    ensures { option_map shown result ≡ sound_book (record { declarations = declarations.now; clauses = clauses.now; entries = entries.now }) }
+/// The book in these records with its totals; `None` where one points outside its table or is over a limit.
+fn sound_book<'a>(held: HeldBook<'a>) -> Option<SoundBook<'a>>
+    ensures { option_map shown result ≡ sound_book (record { declarations = held.entry.declarations.now; clauses = held.entry.clauses.now; entries = held.entry.entries.now }) }
 {
-    let totals = survey(declarations, entries.len())?;
-    if !clauses_fit(clauses, entries.len(), totals.procedures) {
+    let count = held.entries.len();
+    let totals = survey(held.declarations, count)?;
+    if !clauses_fit(held.clauses, count, totals.procedures) {
         return None;
     }
-    Some(SoundBook {
-        held: HeldBook {
-            declarations,
-            clauses,
-            entries,
-        },
-        totals,
-    })
+    Some(SoundBook { held, totals })
 }
 
 /// The book that the lists hold, where so many records of each are in use; `None` where they hold none.
@@ -155,9 +145,9 @@ pub fn held<'a>(lists: &'a Lists, counts: Counts) -> Option<SoundBook<'a>>
         clauses,
         entries,
     } = counts;
-    sound_book(
-        lists.declarations.get(0..declarations)?,
-        lists.clauses.get(0..clauses)?,
-        lists.entries.get(0..entries as usize)?,
-    )
+    sound_book(HeldBook {
+        declarations: lists.declarations.get(0..declarations)?,
+        clauses: lists.clauses.get(0..clauses)?,
+        entries: lists.entries.get(0..entries as usize)?,
+    })
 }

@@ -30,7 +30,7 @@ pub struct Declaration {
 }
 
 /// A clause: its kind, the number of its procedure (0 for axioms), and its entries, from `start` on in the table of entries.
-// Kind and procedure stand apart, and no procedure within the kind, since limits, tallies and look-ups ask for them apart;
+// The kind stands apart from the procedure, since Declare knows the kind first, and the procedure only once it is found;
 // that of an axiom is not looked at.
 #[derive(Clone, Copy)]
 pub struct Clause {
@@ -50,7 +50,7 @@ pub struct Lists<'a> {
 }
 
 /// How many records of each list are in use.
-#[derive(Clone, Copy)]
+#[derive(Clone, Copy, Default)]
 pub struct Counts {
     pub declarations: usize,
     pub clauses: usize,

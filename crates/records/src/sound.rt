@@ -5,7 +5,7 @@ ghost use Rattle.std.specs.Prelude.{◌≡◌, true, length};
 
 use crate::lists::{HeldBook, Totals};
 
-/// A held book whose records point inside their table and are within the limits, with its totals.
+/// A held book with its totals, which are within the limits: what is known of a book that was found sound.
 #[derive(Clone, Copy)]
 pub struct SoundBook<'a> {
     pub held: HeldBook<'a>,

@@ -11,11 +11,11 @@ ghost use Rattle.world.specs.Worlds.{Reading};
 #[derive(Clone, Copy, Debug, PartialEq, Eq)]
 pub enum Cause {
     /// An operand is no entry, or their count is not the code's.
-    Operands,
+    Operands = 1,
     /// The sink does not take the code.
-    Code,
+    Code = 2,
     /// The sink has no spare left.
-    Full,
+    Full = 3,
 }
 
 /// The number by which callers know the cause.
@@ -23,11 +23,7 @@ impl From<Cause> for u32 {
     ghost from_gives = { λ cause n. n ≡ cause_number cause };
 
     fn from(cause: Cause) -> u32 {
-        match cause {
-            Cause::Operands => 1,
-            Cause::Code => 2,
-            Cause::Full => 3,
-        }
+        cause as u32
     }
 }
 
