@@ -100,6 +100,7 @@ impl Options {
         };
         // The program's own name.
         arguments.next();
+        // A `while let` and no `for`, since an option takes its number from the same iterator.
         while let Some(argument) = arguments.next() {
             match Argument::from(argument.as_str()) {
                 Argument::Trace => options.trace = true,

@@ -9,7 +9,7 @@ use page::{Entry, Page};
 use records::lists::{Clause, ClauseKind, Declaration, DeclarationKind, Lists};
 
 /// Copies a page's left and right numbers, entry by entry.
-// By an index into what is written, since std says nothing of the elements that `iter_mut` gives beside another iterator.
+// By an index into what is written, since std says nothing of the elements that `iter_mut` gives when it is zipped.
 fn copy_entries(into: &mut [Entry], page: Page)
     requires { page.a + page.b ≡ length into.old }
     ensures { into.new ≡ entries_of (shown page.entry) }

@@ -73,7 +73,7 @@ impl<'a> Declaring<'a> {
     }
 
     /// How many clauses of a kind the procedure has, if there is one.
-    // A match and no `map_or`: what a closure that looks into the book answers was not proved there.
+    // A match and no `map_or`: with a closure that looks into the book the proof did not close.
     fn count_for(&self, kind: ClauseKind, found: Option<Procedure>) -> usize
         ensures { result ≡ stated_for kind (option_map numbered found.entry) (held_by self.now.book) }
     {

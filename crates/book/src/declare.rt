@@ -78,8 +78,9 @@ impl Open {
     }
 
     /// Judges a clause.
-    // Apart from `judge_declaration`, as `declare_clause` is from `declare_names`: a declaration is answered by a number, and
-    // a clause by its procedure too. A trait for both would have a ghost member for each step, and be longer than the two.
+    // Apart from `judge_declaration`, as `declare_clause` is from `declare_names`: a number answers a declaration, and a clause
+    // its procedure too. A trait for both would have a ghost member for each step and be longer than the two, and of a closure
+    // for the rule contracts could state only what each call answers.
     fn judge_clause(
         &self,
         lists: &Lists,
@@ -132,8 +133,9 @@ impl Open {
     ///
     /// Kinds: 3 constants, 4 globals, 6 a procedure, 7 an axiom, 8 a requires, 9 an ensures and 10 a modifies clause.
     /// The answer is the number of the first thing added, or the clause's number among those of its kind and procedure.
-    // Plain numbers, as front ends hand them in: what they stand for is the call's to find out, or to refuse. That the lists
-    // stay the caller's own (`lent`) relates what is before a call to what is after it, which no field could say.
+    // Plain numbers, as front ends hand them in: what they stand for is the call's to find out, or to refuse. The lists are a
+    // parameter of each call, since the caller lends them anew. That they stay the caller's own (`lent`) is a clause of each:
+    // it relates what is before to what is after, which no field could say.
     pub fn declare(
         &mut self,
         lists: &mut Lists,

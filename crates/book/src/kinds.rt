@@ -4,21 +4,21 @@ ghost use Rattle.std.specs.Prelude.{◌≡◌};
 use fault::{Cause, Ground};
 use records::lists::{ClauseKind, DeclarationKind};
 
-/// What Declare takes.
+/// The kinds that Declare takes.
 #[derive(Clone, Copy)]
 pub(crate) enum Kind {
     Declaration(DeclarationKind),
     Clause(ClauseKind),
 }
 
-/// The kinds of clauses that are expressions of a procedure.
+/// The kinds of clauses of a procedure that are expressions.
 #[derive(Clone, Copy)]
 pub(crate) enum ConditionKind {
     Requires,
     Ensures,
 }
 
-/// By the kind's number.
+/// The kind of a number.
 impl TryFrom<u32> for Kind {
     type Error = Cause;
 

@@ -12,7 +12,7 @@ use page::Page;
 use records::lists::DeclarationKind;
 use records::sound::SoundBook;
 
-/// What is asked to be declared: its name, or the procedure's whose clause it is, and its page.
+/// What is to be declared: the name that the call was given (for a clause, its procedure's), and its page.
 // Without the kind, which has one type for declarations and another for clauses.
 #[derive(Clone, Copy)]
 pub(crate) struct Request<'a> {
@@ -74,6 +74,7 @@ impl Declaring<'_> {
     }
 
     /// The rule for a procedure.
+    // Beside `values`: its grounds are others, and come in another order.
     fn procedure(&self) -> Result<usize, Cause>
         ensures { result ≡ accepting (procedure_rule self.now.request.name (shown self.now.request.page) self.now.full (held_by self.now.book)) (count_of Procedure (held_by self.now.book)) }
     {

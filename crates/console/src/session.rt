@@ -66,9 +66,9 @@ pub(crate) fn answer_lines<W: Write>(
     };
     let mut stage = Stage::Open(Open::new());
     let mut numbers = Vec::new(heap);
-    for (written, line) in text.lines().zip(1..) {
+    for (content, line) in text.lines().zip(1..) {
         numbers.clear();
-        parse_numbers(line, written, &mut numbers)?;
+        parse_numbers(line, content, &mut numbers)?;
         if !numbers.is_empty() {
             let answer = answer_line(stage, &mut lists, numbers.as_slice());
             let (next, outcome) = answer.map_err(|error| Failure::Line { line, error })?;
@@ -82,7 +82,7 @@ pub(crate) fn answer_lines<W: Write>(
 }
 
 /// Makes the call of a line.
-// The stage and the lists are no one struct, here and below: each call moves the stage on, and is only lent the lists.
+// The stage and the lists are not one struct, here and below: each call moves the stage on, and is only lent the lists.
 fn answer_line(
     stage: Stage,
     lists: &mut Lists,

@@ -41,6 +41,7 @@ const WHOLE: Lengths = Lengths {
 };
 
 /// The lists of a book, and how much of them the next call is lent.
+// Arrays, which stand for what a caller lends.
 #[derive(Drop)]
 struct Held {
     declarations: [Declaration; 8],
@@ -70,7 +71,7 @@ fn declare_all(book: &mut Open, lists: &mut Lists) -> Result<(), Fault> {
     Ok(())
 }
 
-/// One more constant, after the damage; nothing where the book itself was refused.
+/// One more constant, after the damage; `None` where a declaration of the book itself was refused.
 fn declare_after<F: FnOnce(&mut Held)>(damage: F) -> Option<Result<usize, Fault>>
     requires { F.IsAlwaysCallable damage }
 {
@@ -162,7 +163,7 @@ fn show_clauses(rt: &HostRuntime) -> io::Result<()> {
     })
 }
 
-/// Lists that are another book's.
+/// Lists that hold another book.
 fn show_other_book(rt: &HostRuntime) -> io::Result<()> {
     show(
         rt,

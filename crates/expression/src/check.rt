@@ -17,6 +17,7 @@ pub fn check_page(scope: &Scope, left: &[u32], right: &[u32]) -> Result<(), Caus
     ensures is { result ≡ checked (scope_of scope.now) (paired left.now right.now) }
     ensures exact { length (paired left.now right.now) ≤ 1024 → Decides (is_ok result) (Postfix (scope_of scope.now) (paired left.now right.now) bool) }
 {
+    // An array with a place for each entry of a page, since nothing here allocates.
     let mut places = [ValueType::BOOL; 1024];
     let mut waiting = Waiting::new(&mut places);
     for (i, (code, argument)) in left.iter().zip(right).enumerate() {

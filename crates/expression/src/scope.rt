@@ -24,7 +24,8 @@ pub struct Scope<'a> {
 
 impl Scope<'_> {
     /// The type of the global or the constant of that name.
-    // A match and no `or_else`, here and in `find`: what a closure that looks into the book answers was not proved there.
+    // A match and no `or_else`, here and for the last look-up of `find`: with a closure that looks into the book the proof
+    // did not close.
     #[tactic(auto, using(crate::proofs::Scoped::found_first, crate::proofs::Scoped::found_later))]
     fn find_value(&self, name: u32) -> Option<ValueType>
         ensures { result ≡ type_of name (values_in self.now) }

@@ -71,7 +71,7 @@ impl<'a> Waiting<'a> {
     }
 
     /// One entry of an expression.
-    // Codes are the numbers that the page holds, as for the type of a result.
+    // Codes are the numbers that the page holds, as in `result_type`.
     pub(crate) fn check_entry(&mut self, scope: &Scope, entry: Entry) -> Result<(), Ground>
         ensures { outcome result (waiting_in self.new) ≡ after_entry (scope_of scope.now) entry (waiting_in self.old) }
     {

@@ -96,7 +96,7 @@ impl From<Ground> for u32 {
     }
 }
 
-/// The refusal of a call that no block is part of.
+/// A refusal where there is no block.
 impl From<Cause> for Fault {
     ghost from_gives = { λ c f. f ≡ without_block c };
 
@@ -125,7 +125,7 @@ impl From<Fault> for Report {
     }
 }
 
-/// The four numbers, with a blank between.
+/// The four numbers, with blanks between.
 impl fmt::Display for Report {
     ghost output = { λ r. Some (report_text r) };
 

@@ -24,7 +24,7 @@ impl ValueType {
 }
 
 /// The types of a code's operands, in their order.
-// None, one or two: neither an `Option` nor a list.
+// An enum of its own: none, one or two, for which an `Option` has no case and a list has too many.
 #[derive(Clone, Copy, PartialEq, Eq, Debug)]
 pub enum Operands {
     None,
@@ -33,7 +33,7 @@ pub enum Operands {
 }
 
 /// The type of the result of an expression code on operands of these types, where they suit it.
-// Codes are the numbers that a page holds, and this one match over their ranges is the table of all that name nothing.
+// Codes are the numbers that a page holds, and this one match over their ranges is the table of all that take no name.
 pub fn result_type(code: u32, operands: Operands) -> Option<ValueType>
     ensures { result ≡ result_of code operands }
 {

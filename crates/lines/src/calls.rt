@@ -74,6 +74,7 @@ impl From<CallKind> for u32 {
 
 impl CallKind {
     /// The name of this call, for messages.
+    // By itself and not in `Display`: a text with a contract, which longer messages quote.
     pub fn name(self) -> &'static str
         ensures { result.now ≡ name_of self }
     {

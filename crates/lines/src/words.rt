@@ -18,7 +18,7 @@ pub enum WordError {
 }
 
 impl WordError {
-    /// What is wrong with the line, where this is wrong with its word of this number.
+    /// What is wrong with the line, where this is wrong with the word of this number.
     pub fn at(self, word: usize) -> LineError
         ensures { result ≡ error_at word self }
     {
@@ -30,7 +30,7 @@ impl WordError {
 }
 
 /// The number that a word of decimal digits stands for.
-// By hand, since the library's parse takes a leading plus and does not tell what is no digit from what is too large.
+// By hand, since std's parse takes a leading plus, and calls a word too large before it has seen a letter behind the digits.
 #[tactic(auto, using(crate::proofs::Digits::goes))]
 pub fn parse_word(word: &[u8]) -> Result<u32, WordError>
     ensures { result ≡ word_of word.now }

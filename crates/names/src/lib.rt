@@ -28,7 +28,8 @@ fn is_type(number: u32) -> bool
 }
 
 /// How many of these numbers come before the first that is no name.
-// A count and no `Option` of an index, here and below: it is std's `prefix_len`, by which the rules are said.
+// A count and no `Option` of an index, here and below: it is std's `prefix_len` (for names that differ, `fresh`), by which
+// the rules are said.
 pub fn leading_names(numbers: &[u32]) -> usize
     ensures { result ≡ prefix_len is_name numbers.now }
 {
@@ -50,6 +51,7 @@ fn is_bare_name(left: u32, right: u32) -> bool
 }
 
 /// How many of these entries come before the first that is no name with 0 on the right.
+// Two slices and no page: what is asked about need not be a page that was read.
 pub fn leading_bare_names(left: &[u32], right: &[u32]) -> usize
     ensures { result ≡ prefix_len is_bare_name (paired left.now right.now) }
 {
@@ -67,7 +69,7 @@ fn is_member(numbers: &[u32], number: u32) -> bool
 }
 
 /// Some names of a book.
-// An enum and no closure, since contracts name its entries: what a closure answers they could state only call by call.
+// An enum and no closure, since contracts name its cases: of a closure they could state only what each call answers.
 #[derive(Clone, Copy)]
 pub enum NameGroup {
     Nothing,
@@ -94,6 +96,7 @@ fn is_value(book: &HeldBook, name: u32) -> bool
         || is_declared(book, DeclarationKind::Constants, name)
 }
 
+// The book is a parameter of each: a group is the same whatever the book.
 impl NameGroup {
     /// Is this one of them?
     fn has(self, book: &HeldBook, name: u32) -> bool
@@ -122,6 +125,7 @@ impl NameGroup {
     }
 
     /// How many of these come before the first that is one of the group's names, or that stands among those before it.
+    // A search by hand, since each name is compared with those before it.
     #[tactic(auto, using(crate::proofs::Leads::fresh_stops, crate::proofs::Leads::fresh_goes, crate::proofs::Leads::fresh_ends))]
     pub fn leading_fresh(self, book: &HeldBook, names: &[u32]) -> usize
         ensures { result ≡ fresh (names_in self book.now) [] names.now }

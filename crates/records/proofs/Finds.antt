@@ -1,7 +1,5 @@
 -- Laws of look-ups.
-use Rattle.std.proofs.Common.{◌≡◌, ℕ, ◌+◌, ◌-◌, ◌<◌, ◌≤◌, min, Bool, true, false, cond, ◌||◌, is_some, ◌==◌, eqb, ◌⊎◌, List, [], ◌∷◌, ◌++◌, map, length, get_or, take, drop, Some, None, Option, sym, refl, ap, ◌∙◌, inl, inr, arith}
-use Rattle.std.proofs.lemmas.List.{at_drop_all, at_drop_more, drop_all, length-drop, take_all}
-use Rattle.std.proofs.lemmas.Bool.{cases_lt}
+use Rattle.std.proofs.Common.{◌≡◌, ℕ, ◌+◌, ◌<◌, Bool, true, false, cond, ◌||◌, is_some, ◌==◌, eqb, List, [], ◌∷◌, ◌++◌, map, length, take, drop, Some, None, Option, sym, refl, ap, ◌∙◌, arith}
 use Rattle.std.specs.List.{enumerate_from, filter, find, flat_map, list_any}
 use Rattle.std.specs.Option.{option_map}
 use Rattle.page.specs.declared.Entry.{Entry}
@@ -16,25 +14,6 @@ use Rattle.records.specs.Found.{or_else}
 use Rattle.records.specs.Held.{declared_in, stated_in}
 use Rattle.records.specs.Kinds.{same_declaration}
 
--- A part cut at the ends of the list is what `take` and `drop` leave.
-pub part_is : {X : Type 0} (xs : List X) (start count from to : ℕ) → from ≡ min (length xs) start → to ≡ min (length xs) (start + count)
-    → take (to - from) (drop from xs) ≡ take count (drop start xs)
-part_is xs start count from to f t =
-    elim (cases_lt (start + count) (length xs)) [
-      | inl h ↦
-          let g : from ≡ start = omega arith in
-          let n : to - from ≡ count = omega arith in
-          ap (λ (k : ℕ). take (to - from) (drop k xs)) g ∙ ap (λ (k : ℕ). take k (drop start xs)) n
-      | inr h ↦
-          let l = length-drop from xs in
-          let m = length-drop start xs in
-          take_all (to - from) (drop from xs) (omega arith) ∙ same (cases_lt start (length xs)) ∙ sym (take_all count (drop start xs) (omega arith))
-    ]
-  where
-    same : (start < length xs) ⊎ (length xs ≤ start) → drop from xs ≡ drop start xs
-    same (inl h) = let g : from ≡ start = omega arith in ap (λ (k : ℕ). drop k xs) g
-    same (inr h) = drop_all from xs (omega arith) ∙ sym (drop_all start xs h)
-
 -- A look-up goes through the first list, and then through the second.
 pub type_of-append : (name : ℕ) (xs ys : List Entry) → type_of name (xs ++ ys) ≡ or_else (type_of name xs) (type_of name ys)
 type_of-append name [] ys = refl
@@ -45,22 +24,9 @@ type_of-append name (x ∷ xs) ys = by (eqb x.left name) (type_of-append name xs
     by true e = refl
     by false e = e
 
--- A look-up through joined lists that has come to the one at i; `whole` is what it is to answer.
-module _ {X Y : Type 0} (f : Y → List Entry) (g : X → Y) (name : ℕ) (xs : List X) (i : ℕ) (d : X) (whole : Option ValueType)
-    (inv : type_of name (flat_map f (map g (drop i xs))) ≡ whole) where
-  step : i < length xs → or_else (type_of name (f (g (get_or xs i d)))) (type_of name (flat_map f (map g (drop (i + 1) xs)))) ≡ whole
-  step h =
-      sym (type_of-append name (f (g (get_or xs i d))) (flat_map f (map g (drop (i + 1) xs))))
-      ∙ sym (at_drop_more (λ l. type_of name (flat_map f (map g l))) xs i d h) ∙ inv
-
-  pub look_found : i < length xs → (t : ValueType) → Some t ≡ type_of name (f (g (get_or xs i d))) → Some t ≡ whole
-  look_found h t e = ap (λ (o : Option ValueType). or_else o (type_of name (flat_map f (map g (drop (i + 1) xs))))) e ∙ step h
-
-  pub look_next : i < length xs → None ≡ type_of name (f (g (get_or xs i d))) → type_of name (flat_map f (map g (drop (i + 1) xs))) ≡ whole
-  look_next h e = ap (λ (o : Option ValueType). or_else o (type_of name (flat_map f (map g (drop (i + 1) xs))))) e ∙ step h
-
-  pub look_all : length xs ≤ i → None ≡ whole
-  look_all h = sym (at_drop_all (λ l. type_of name (flat_map f (map g l))) xs i h) ∙ inv
+pub flat_map-map : {X Y Z : Type 0} (f : Y → List Z) (g : X → Y) (xs : List X) → flat_map (λ x. f (g x)) xs ≡ flat_map f (map g xs)
+flat_map-map f g [] = refl
+flat_map-map f g (x ∷ xs) = ap (λ ys. f (g x) ++ ys) (flat_map-map f g xs)
 
 pub option_map_twice : {X Y Z : Type 0} (f : Y → Z) (g : X → Y) (o : Option X) → option_map (λ x. f (g x)) o ≡ option_map f (option_map g o)
 option_map_twice f g None = refl
@@ -130,13 +96,6 @@ procedure_found name es n (d ∷ ds) = by (is_procedure d) (procedure_found name
         ≡ numbered_from n name (cond b (declared_in es d ∷ procedures_in (map (declared_in es) ds)) (procedures_in (map (declared_in es) ds)))
     by true here next = named (d.name == name) next
     by false here next = here
-
--- What the first list has is found there; else it is what the second has.
-pub type_of_first : (name : ℕ) (xs ys : List Entry) (t : ValueType) → Some t ≡ type_of name xs → Some t ≡ type_of name (xs ++ ys)
-type_of_first name xs ys t e = ap (λ (o : Option ValueType). or_else o (type_of name ys)) e ∙ sym (type_of-append name xs ys)
-
-pub type_of_later : (name : ℕ) (xs ys : List Entry) (r : Option ValueType) → None ≡ type_of name xs → r ≡ type_of name ys → r ≡ type_of name (xs ++ ys)
-type_of_later name xs ys r e f = f ∙ ap (λ (o : Option ValueType). or_else o (type_of name ys)) e ∙ sym (type_of-append name xs ys)
 
 -- A procedure's number counts those before it.
 pub numbered_below : (number name : ℕ) (ps : List Declared) (q : Numbered) → Some q ≡ numbered_from number name ps → q.number < number + length ps

@@ -1,8 +1,7 @@
 -- The records that stand for none, and the steps of a survey.
-use Rattle.std.proofs.Common.{◌≡◌, ℕ, ◌+◌, ◌<◌, ◌≤◌, true, false, List, [], ◌∷◌, length, get_or, drop, Some, None, Option, sym, ap, ◌∙◌, add_assoc, arith}
-use Rattle.std.proofs.lemmas.List.{at_drop_more, at_drop_all}
+use Rattle.std.proofs.Common.{◌≡◌, ℕ, ◌+◌, ◌<◌, true, false, List, ◌∷◌, length, get_or, drop, None, Option, sym, ap, ◌∙◌, add_assoc, arith}
+use Rattle.std.proofs.lemmas.List.{at_drop_more}
 use Rattle.std.proofs.lemmas.Bool.Decides.{nat_tests}
-use Rattle.page.specs.declared.Entry.{Entry}
 use Rattle.records.specs.declared.lists.Clause.{Clause}
 use Rattle.records.specs.declared.lists.ClauseKind.TheVariants.{Axiom}
 use Rattle.records.specs.declared.lists.Declaration.{Declaration}
@@ -13,9 +12,6 @@ use Rattle.records.specs.Sizes.{Few, counting, few, surveyed}
 
 abbrev pub no_declaration : Declaration
 no_declaration = record { kind = Constants; name = 0; start = 0; a = 0; b = 0 }
-
-abbrev pub no_entry : Entry
-no_entry = record { left = 0; right = 0 }
 
 abbrev pub no_clause : Clause
 no_clause = record { kind = Axiom; procedure = 0; start = 0; count = 0 }
@@ -28,12 +24,6 @@ module _ (count : ℕ) (ds : List Declaration) (i : ℕ) (t : Totals) (whole : O
   step : i < length ds → surveyed count t (here ∷ drop (i + 1) ds) ≡ whole
   step h = sym (at_drop_more (surveyed count t) ds i no_declaration h) ∙ inv
 
-  pub survey_unfit : i < length ds → false ≡ declaration_fits count here → None ≡ whole
-  survey_unfit h e = unfit (drop (i + 1) ds) ∙ step h
-    where
-      unfit : (rest : List Declaration) → None ≡ surveyed count t (here ∷ rest)
-      unfit rest = rw (← e)
-
   pub survey_many : i < length ds → (t' : Totals) → t' ≡ counting here t → false ≡ few t' → None ≡ whole
   survey_many h t' e f = many here (drop (i + 1) ds) (f ∙ ap few e) ∙ step h
     where
@@ -45,12 +35,6 @@ module _ (count : ℕ) (ds : List Declaration) (i : ℕ) (t : Totals) (whole : O
     where
       more : (rest : List Declaration) → surveyed count (counting here t) rest ≡ surveyed count t (here ∷ rest)
       more rest = rw (← f) (simp add_assoc)
-
-  pub survey_all : length ds ≤ i → Few t → Some t ≡ whole
-  survey_all h f = all ∙ sym (at_drop_all (surveyed count t) ds i h) ∙ inv
-    where
-      all : Some t ≡ surveyed count t []
-      all = grind (arith, nat_tests)
 
 pub few_few : (t : Totals) → true ≡ few t → Few t
 few_few t e = grind (arith, nat_tests)

@@ -1,6 +1,6 @@
 -- A tally of clauses by rows, and the steps of the test that each clause fits.
 use Rattle.std.proofs.Common.{◌≡◌, ℕ, ◌+◌, ◌<◌, ◌≤◌, Bool, true, false, cond, ◌&&◌, eqb, List, [], ◌∷◌, ◌++◌, length, get_or, take, drop, set, replicate, sym, refl, ap, ◌∙◌, subst, inl, inr, arith}
-use Rattle.std.proofs.lemmas.List.{drop_more, drop_all, take_more, get_or-set_same, get_or-set_other, get_or-replicate, length-take-le}
+use Rattle.std.proofs.lemmas.List.{drop_more, take_more, get_or-set_same, get_or-set_other, get_or-replicate, length-take-le}
 use Rattle.std.proofs.lemmas.Bool.{cases_eq, eq-eqb, ne_eqb}
 use Rattle.std.proofs.lemmas.Bool.Decides.{nat_tests}
 use Rattle.records.specs.declared.lists.Clause.{Clause}
@@ -116,16 +116,6 @@ module _ (count procedures : ℕ) (cs : List Clause) (i : ℕ) (whole : Bool) (i
   step : i < length cs → (clause_fits count procedures (take i cs) here && clauses_fit count procedures (take i cs ++ (here ∷ [])) (drop (i + 1) cs)) ≡ whole
   step h = ap (λ (l : List Clause). clauses_fit count procedures (take i cs) l) (sym (drop_more cs i no_clause h)) ∙ inv
 
-  pub fit_outside : i < length cs → false ≡ lies count procedures here → false ≡ whole
-  fit_outside h e = let s = step h in grind (arith, nat_tests)
-
-  pub fit_full : i < length cs → (n : ℕ) → n ≡ count_of here.kind here.procedure (take i cs) → true ≡ is_full here.kind n → false ≡ whole
-  fit_full h n e f = full (ap (λ (x : ℕ). is_full here.kind x) (sym e) ∙ sym f) ∙ step h
-    where
-      full : is_full here.kind (count_of here.kind here.procedure (take i cs)) ≡ true
-          → false ≡ (clause_fits count procedures (take i cs) here && clauses_fit count procedures (take i cs ++ (here ∷ [])) (drop (i + 1) cs))
-      full g = grind (arith, nat_tests)
-
   pub fit_more : i < length cs → (n : ℕ) → n ≡ count_of here.kind here.procedure (take i cs) → false ≡ is_full here.kind n → true ≡ lies count procedures here
       → clauses_fit count procedures (take (i + 1) cs) (drop (i + 1) cs) ≡ whole
   fit_more h n e f g =
@@ -136,6 +126,3 @@ module _ (count procedures : ℕ) (cs : List Clause) (i : ℕ) (whole : Bool) (i
           → clauses_fit count procedures (take i cs ++ (here ∷ [])) (drop (i + 1) cs)
           ≡ (clause_fits count procedures (take i cs) here && clauses_fit count procedures (take i cs ++ (here ∷ [])) (drop (i + 1) cs))
       more n = grind (arith, nat_tests)
-
-  pub fit_all : length cs ≤ i → true ≡ whole
-  fit_all h = sym (ap (λ (l : List Clause). clauses_fit count procedures (take i cs) l) (drop_all i cs h)) ∙ inv

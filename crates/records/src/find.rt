@@ -74,16 +74,16 @@ impl<'a> HeldBook<'a> {
     }
 
     /// The type of the first constant, or global, of that name.
-    // A loop, since std says of `find_map` which calls it made, and not yet what it answers.
     pub fn find_declared(&self, kind: DeclarationKind, name: u32) -> Option<ValueType>
         ensures { result ≡ type_of name (declared_as kind (book_of self.now).declarations) }
     {
-        for declaration in self.declarations {
-            if let Some(t) = find_type(self.declared_as(*declaration, kind), name) {
-                return Some(t);
-            }
-        }
-        None
+        self.declarations
+            .iter()
+            .flat_map(|declaration| self.declared_as(*declaration, kind))
+            .find(|declared| declared.left == name)
+            .map(|declared| ValueType {
+                number: declared.right,
+            })
     }
 
     /// The procedure of that name.

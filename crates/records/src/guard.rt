@@ -61,6 +61,8 @@ impl Totals {
 }
 
 /// The totals of these records, or `None` where one points outside the table or is over a limit.
+// A loop and no fold, here and for the clauses: it ends at the first record that is wrong, with totals so far that a
+// closure would have to carry.
 fn survey(declarations: &[Declaration], count: usize) -> Option<Totals>
     ensures { result ≡ surveyed count none declarations.now }
 {

@@ -30,8 +30,7 @@ pub struct Declaration {
 }
 
 /// A clause: its kind, the number of its procedure (0 for axioms), and its entries, from `start` on in the table of entries.
-// The kind stands apart from the procedure, since Declare knows the kind first, and the procedure only once it is found;
-// that of an axiom is not looked at.
+// Kind and procedure apart, as plain numbers of a lent record: look-ups ask for both, and that of an axiom is not looked at.
 #[derive(Clone, Copy)]
 pub struct Clause {
     pub kind: ClauseKind,
@@ -66,6 +65,7 @@ pub struct Totals {
 }
 
 /// The book that the lists hold: the records in use, read where they lie.
+// Slices of what the caller lent, here and below, since nothing here allocates.
 #[derive(Clone, Copy)]
 pub struct HeldBook<'a> {
     pub declarations: &'a [Declaration],

@@ -47,7 +47,7 @@ pub trait Sink {
     ghost lawful: { (s : Self) (t : Tell) (a : Answer) (z : Self) → steps s t a z → Told watches entries value takes spare s t a z };
 
     /// Tells an entry: its code, its argument and the entries that are its operands.
-    // Plain numbers, as every call takes them: a caller has no struct to fill.
+    // Plain numbers, as every call takes them: what a code means is the sink's to look up.
     fn tell(&mut self, code: u32, argument: u32, operands: &[u32]) -> Result<u32, Cause>
         ensures told { Told watches entries value takes spare self.old (record { code = code; argument = argument; operands = operands.now }) result self.new }
         ensures steps { steps self.old (record { code = code; argument = argument; operands = operands.now }) result self.new };

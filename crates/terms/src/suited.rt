@@ -4,7 +4,7 @@ ghost use Rattle.sink.specs.Laws.{fitting};
 ghost use Rattle.world.specs.Tells.{arity};
 
 /// How many operands a told code has.
-// Codes are the numbers that are told.
+// Codes are the numbers that are told, and their operands go by ranges.
 fn operand_count(code: u32) -> Option<usize>
     ensures { result ≡ arity code }
 {

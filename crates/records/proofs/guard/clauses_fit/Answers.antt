@@ -1,29 +1,11 @@
 use Rattle.std.proofs.Common.{get_or, take, refl, ◌∙◌, arith}
 use Rattle.std.proofs.lemmas.List.{length-set}
 use Rattle.records.proofs.Steps.{no_clause}
-use Rattle.records.proofs.Tallies.{count_below, tallied_none, tallied_at, row_counts, lies_row, fit_outside, fit_full, fit_more, fit_all}
+use Rattle.records.proofs.Tallies.{count_below, tallied_none, tallied_at, row_counts, lies_row, fit_more}
 use Rattle.records.proofs.guard.clauses_fit.Goals as goal
 
 pub loop-clause-init : goal.loop-clause-init
 loop-clause-init c = (tallied_none, refl, refl)
-
-pub row-row-requires : goal.row-row-requires
-row-row-requires c = lies_row c.args.count c.args.procedures _ c.requires c.if-not-lies.ensures
-
-pub returns-then-not-lies : goal.returns-then-not-lies
-returns-then-not-lies c =
-    fit_outside c.args.count c.args.procedures c.args.clauses.now c.loop-clause.clause-index _ c.loop-clause.invariant.2
-    c.loop-clause-test.true c.if-not-lies.ensures
-
-pub returns-then-is_full : goal.returns-then-is_full
-returns-then-is_full c =
-    fit_full c.args.count c.args.procedures c.args.clauses.now c.loop-clause.clause-index _ c.loop-clause.invariant.2
-    c.loop-clause-test.true (get_or c.loop-clause.tally c.row-row.result 0)
-    (row_counts c.loop-clause.tally (take c.loop-clause.clause-index c.args.clauses.now) (get_or c.args.clauses.now c.loop-clause.clause-index no_clause) c.row-row.result
-    c.loop-clause.invariant.0
-    (lies_row c.args.count c.args.procedures (get_or c.args.clauses.now c.loop-clause.clause-index no_clause) c.requires c.if-not-lies.ensures)
-    c.row-row.ensures.is)
-    c.if-is_full.ensures
 
 pub overflow_add-tally : goal.overflow_add-tally
 overflow_add-tally c =
@@ -44,8 +26,3 @@ loop-clause-preserved c =
           (row_counts c.loop-clause.tally (take c.loop-clause.clause-index c.args.clauses.now) here c.row-row.result c.loop-clause.invariant.0 r c.row-row.ensures.is)
           c.if-is_full.ensures c.if-not-lies.ensures,
     )
-
-pub returns : goal.returns
-returns c =
-    fit_all c.args.count c.args.procedures c.args.clauses.now c.loop-clause.clause-index _ c.loop-clause.invariant.2
-    c.loop-clause-test.false

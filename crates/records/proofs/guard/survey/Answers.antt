@@ -1,10 +1,5 @@
-use Rattle.records.proofs.Steps.{few_few, survey_unfit, survey_many, survey_more, survey_all}
+use Rattle.records.proofs.Steps.{few_few, survey_many, survey_more}
 use Rattle.records.proofs.guard.survey.Goals as goal
-
-pub returns-then-not-fits : goal.returns-then-not-fits
-returns-then-not-fits c =
-    survey_unfit c.args.count c.args.declarations.now c.loop-d.d-index c.loop-d.totals _ c.loop-d.invariant.1
-    c.loop-d-test.true c.if-not-fits.ensures
 
 pub returns-then-not-are_few : goal.returns-then-not-are_few
 returns-then-not-are_few c =
@@ -17,8 +12,3 @@ loop-d-preserved c = (
   survey_more c.args.count c.args.declarations.now c.loop-d.d-index c.loop-d.totals _ c.loop-d.invariant.1
       c.loop-d-test.true c.counting-totals.result c.counting-totals.ensures c.if-not-fits.ensures,
 )
-
-pub returns : goal.returns
-returns c =
-    survey_all c.args.count c.args.declarations.now c.loop-d.d-index c.loop-d.totals _ c.loop-d.invariant.1
-    c.loop-d-test.false c.loop-d.invariant.0
