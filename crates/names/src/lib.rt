@@ -81,6 +81,7 @@ pub enum NameGroup {
 }
 
 /// Is there a constant, or a global, of that name?
+// The book is a parameter, here and below: nothing holds a book and a name, and a group is the same whatever the book.
 fn is_declared(book: &HeldBook, kind: DeclarationKind, name: u32) -> bool
     ensures { result ≡ has name (declared_as kind (book_of book.now).declarations) }
 {
@@ -96,7 +97,6 @@ fn is_value(book: &HeldBook, name: u32) -> bool
         || is_declared(book, DeclarationKind::Constants, name)
 }
 
-// The book is a parameter of each: a group is the same whatever the book.
 impl NameGroup {
     /// Is this one of them?
     fn has(self, book: &HeldBook, name: u32) -> bool

@@ -18,8 +18,8 @@ pub enum ClauseKind {
 }
 
 /// A declaration: its kind, its name (0 but for procedures), and its a + b entries, from `start` on in the table of entries.
-// A place in the table and no list of its own, since the entries of all records lie in one lent slice. The name is the
-// number that the call was given, whose rule is that it is 0 for constants and globals.
+// A place in the table and no list of its own, here and in a clause, since the entries of all records lie in one lent
+// slice. The name is the number that the call was given, whose rule is that it is 0 for constants and globals.
 #[derive(Clone, Copy)]
 pub struct Declaration {
     pub kind: DeclarationKind,
