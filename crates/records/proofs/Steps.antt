@@ -2,6 +2,7 @@
 use Rattle.std.proofs.Common.{◌≡◌, ℕ, ◌+◌, ◌<◌, true, false, List, ◌∷◌, length, get_or, drop, None, Option, sym, ap, ◌∙◌, add_assoc, arith}
 use Rattle.std.proofs.lemmas.List.{at_drop_more}
 use Rattle.std.proofs.lemmas.Bool.Decides.{nat_tests}
+use Rattle.page.specs.declared.Entry.{Entry}
 use Rattle.records.specs.declared.lists.Clause.{Clause}
 use Rattle.records.specs.declared.lists.ClauseKind.TheVariants.{Axiom}
 use Rattle.records.specs.declared.lists.Declaration.{Declaration}
@@ -12,6 +13,9 @@ use Rattle.records.specs.Sizes.{Few, counting, few, surveyed}
 
 abbrev pub no_declaration : Declaration
 no_declaration = record { kind = Constants; name = 0; start = 0; a = 0; b = 0 }
+
+abbrev pub no_entry : Entry
+no_entry = record { left = 0; right = 0 }
 
 abbrev pub no_clause : Clause
 no_clause = record { kind = Axiom; procedure = 0; start = 0; count = 0 }

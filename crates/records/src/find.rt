@@ -79,11 +79,9 @@ impl<'a> HeldBook<'a> {
     {
         self.declarations
             .iter()
-            .flat_map(|declaration| self.declared_as(*declaration, kind))
-            .find(|declared| declared.left == name)
-            .map(|declared| ValueType {
-                number: declared.right,
-            })
+            .map(|declaration| find_type(self.declared_as(*declaration, kind), name))
+            .find(|found| found.is_some())
+            .flatten()
     }
 
     /// The procedure of that name.
@@ -106,10 +104,11 @@ impl<'a> HeldBook<'a> {
     pub fn count_clauses(&self, kind: ClauseKind, procedure: usize) -> usize
         ensures { result ≡ length (clauses_of kind procedure (book_of self.now)) }
     {
+        // A sum and no filter, which would branch at each clause, and often wrongly.
         self.clauses
             .iter()
-            .filter(|clause| clause.belongs_to(kind, procedure))
-            .count()
+            .map(|clause| usize::from(clause.belongs_to(kind, procedure)))
+            .sum()
     }
 
     /// Do the modifies clauses of the procedure of that number name this global?

@@ -1,10 +1,10 @@
 -- What one more entry leaves of what is held.
-use Rattle.std.specs.Prelude.{◌≡◌, ℕ, suc, ◌+◌, ◌<◌, ◌≤◌, true, false, List, [], ◌∷◌, ◌++◌, map, length, take, drop, Some, refl}
+use Rattle.std.specs.Prelude.{◌≡◌, ℕ, suc, ◌+◌, ◌<◌, ◌≤◌, true, false, List, [], ◌∷◌, ◌++◌, map, length, take, drop, Some, slice_index_or, refl}
 use Rattle.std.proofs.Common.{sym, ap, subst, ◌∙◌, arith}
 use Rattle.std.proofs.Math.Seq.{paste}
 use Rattle.std.specs.List.{All}
 use Rattle.std.proofs.lemmas.List.Elements.{All-push, All-weaker}
-use Rattle.std.proofs.lemmas.List.{take_more_set, take-take, drop-take, length_push, get_or_append_left, get_or_push}
+use Rattle.std.proofs.lemmas.List.{take_more_set, take-take, drop-take, length-take-le, length_push, get_or_append_left, get_or_push, get_or-take}
 use Rattle.std.proofs.lemmas.Bool.Decides.{nat_tests}
 use Rattle.std.proofs.lemmas.Grind.{common_steps}
 use Rattle.sink.specs.Laws.{apt}
@@ -18,8 +18,15 @@ use Rattle.terms.specs.Held.{Held, spare_of, new_term, grown_by, operands_in, lo
 abbrev pub Among : ℕ → ℕ → List Term → Type 0
 Among placed used ts = All (λ t. t.first + t.count ≤ placed) (take used ts)
 
+-- What that says of one of the records.
+pub among_at : (placed used k : ℕ) (ts : List Term) (d : Term) → Among placed used ts → k < used → used ≤ length ts → (slice_index_or ts k d).first + (slice_index_or ts k d).count ≤ placed
+among_at placed used k ts d h l m =
+    let P : Term → Type 0 = λ t. t.first + t.count ≤ placed in
+    let b : k < length (take used ts) = let e = length-take-le used ts m in omega arith in
+    subst P (get_or-take used ts k d l) (h k d b)
+
 -- A told code has at most two operands.
-arity_few : (code n : ℕ) → arity code ≡ Some n → n ≤ 2
+pub arity_few : (code n : ℕ) → arity code ≡ Some n → n ≤ 2
 arity_few code n h = grind (arith, nat_tests)
 
 -- What a write of all of xs leaves.
@@ -65,7 +72,7 @@ pub record Sound (h : Held) : Type 0 where
 -- One more entry, where there is spare for it.
 module _ (t : Tell) (h : Held) (on : Sound h) (suits : apt h.used t ≡ true) (spare : 0 < spare_of h) where
   -- there are a record and places for it
-  roomy : (h.used < length h.records) × (h.placed + length t.operands ≤ length h.places) × (length t.operands ≤ 2)
+  pub roomy : (h.used < length h.records) × (h.placed + length t.operands ≤ length h.places) × (length t.operands ≤ 2)
   roomy =
       let n = arity_few t.code (length t.operands) (apt_parts h.used t suits).0 in
       (omega arith, omega arith, n)

@@ -1,6 +1,7 @@
 -- A term list's step keeps the laws of a sink.
-use Rattle.std.specs.Prelude.{◌≡◌, ℕ, ◌+◌, ◌<◌, ◌≤◌, true, false, Ok, Err, refl}
+use Rattle.std.specs.Prelude.{◌≡◌, ℕ, ◌+◌, ◌<◌, ◌≤◌, true, false, Ok, Err, ◌==◌, refl}
 use Rattle.std.proofs.Common.{sym, ap, subst, ◌∙◌, arith}
+use Rattle.std.proofs.lemmas.Bool.{eqb-true, eqb-false, cond_both}
 use Rattle.std.proofs.lemmas.Bool.Decides.{nat_tests}
 use Rattle.sink.specs.declared.Cause.TheVariants.{Operands, Code, Full}
 use Rattle.sink.specs.Causes.{Answer}
@@ -8,9 +9,16 @@ use Rattle.sink.specs.Laws.{apt, Told}
 use Rattle.world.specs.Tells.{Tell}
 use Rattle.world.specs.declared.Carrier.{Ghosts}
 use Rattle.terms.specs.declared.Terms.{Terms}
-use Rattle.terms.specs.Held.{Held, spare_of, value_of, grown_by, told_to}
+use Rattle.terms.specs.Held.{Held, Outcome, spare_of, value_of, grown_by, told_to}
 use Rattle.terms.specs.Steps.{held, Steps}
 use Rattle.terms.specs.Growing.{Sound, falls_one, new_value, old_value}
+
+-- The three ways that a tell can go.
+pub by_told : (t : Tell) (h : Held) (P : Outcome → Type 0) → (apt h.used t ≡ false → P (record { answer = Err Operands; held = h })) → (apt h.used t ≡ true → spare_of h ≡ 0 → P (record { answer = Err Full; held = h })) → (apt h.used t ≡ true → 0 < spare_of h → P (record { answer = Ok h.used; held = grown_by t h })) → P (told_to t h)
+by_told t h P unsuited full more =
+    cond_both (apt h.used t) _ _ P
+    (λ a. cond_both (spare_of h == 0) _ _ P (λ e. full a (eqb-true (spare_of h) 0 e)) (λ e. let n = eqb-false (spare_of h) 0 e in let l : 0 < spare_of h = omega arith in more a l))
+    unsuited
 
 module _ (t : Tell) (h : Held) (z : Held) where
   -- What an accepted tell shows.
