@@ -1,7 +1,8 @@
 -- Laws of look-ups.
-use Rattle.std.proofs.Common.{◌≡◌, ℕ, ◌+◌, ◌<◌, ◌≤◌, Bool, true, false, cond, ◌||◌, is_some, ◌==◌, eqb, List, [], ◌∷◌, ◌++◌, map, length, take, drop, Some, None, Option, sym, refl, ap, ◌∙◌, arith}
-use Rattle.std.specs.Int.{from_bool}
-use Rattle.std.specs.List.{enumerate_from, filter, find, flat_map, fold, list_any}
+use Rattle.std.proofs.Common.{◌≡◌, ℕ, ◌+◌, ◌<◌, Bool, true, false, cond, ◌||◌, is_some, ◌==◌, eqb, List, [], ◌∷◌, ◌++◌, map, length, get_or, take, drop, Some, None, Option, sym, refl, ap, ◌∙◌, arith}
+use Rattle.std.proofs.lemmas.List.{at_drop_more}
+use Rattle.std.proofs.lemmas.Bool.Decides.{nat_tests}
+use Rattle.std.specs.List.{enumerate_from, filter, find, flat_map, list_any}
 use Rattle.std.specs.Option.{option_flatten, option_map}
 use Rattle.page.specs.declared.Entry.{Entry}
 use Rattle.language.specs.declared.ValueType.{ValueType}
@@ -14,6 +15,7 @@ use Rattle.records.specs.Book.{Declared, Numbered, belongs, numbered_from, proce
 use Rattle.records.specs.Found.{or_else}
 use Rattle.records.specs.Held.{declared_in, stated_in}
 use Rattle.records.specs.Kinds.{same_declaration}
+use Rattle.records.proofs.Steps.{no_clause}
 
 -- A look-up goes through the first list, and then through the second.
 pub type_of-append : (name : ℕ) (xs ys : List Entry) → type_of name (xs ++ ys) ≡ or_else (type_of name xs) (type_of name ys)
@@ -67,26 +69,22 @@ has_any f g name (x ∷ xs) =
     by None b = refl
     by (Some t) b = refl
 
--- As many clauses belong there as the book has.
-pub stated_sum : (kind : ClauseKind) (p : ℕ) (es : List Entry) (n : ℕ) (cs : List Clause)
-    → fold (λ m (c : Clause). m + from_bool (belongs kind p c.kind c.procedure)) n cs ≡ n + length (stated_as kind p (map (stated_in es) cs))
-stated_sum kind p es n [] = omega arith
-stated_sum kind p es n (c ∷ cs) =
-    stated_sum kind p es (n + from_bool (belongs kind p c.kind c.procedure)) cs ∙ by (belongs kind p c.kind c.procedure)
-  where
-    by : (b : Bool) → (n + from_bool b) + length (stated_as kind p (map (stated_in es) cs))
-        ≡ n + length (cond b (stated_in es c ∷ stated_as kind p (map (stated_in es) cs)) (stated_as kind p (map (stated_in es) cs)))
-    by true = omega arith
-    by false = omega arith
+-- A count of clauses that has come to the one at i, n so far; `whole` is what it is to answer.
+module _ (kind : ClauseKind) (p : ℕ) (es : List Entry) (cs : List Clause) (i n whole : ℕ)
+    (inv : n + length (stated_as kind p (map (stated_in es) (drop i cs))) ≡ whole) where
+  abbrev clause : Clause
+  clause = get_or cs i no_clause
 
-pub stated_few : (kind : ClauseKind) (p : ℕ) (es : List Entry) (cs : List Clause) → length (stated_as kind p (map (stated_in es) cs)) ≤ length cs
-stated_few kind p es [] = omega arith
-stated_few kind p es (c ∷ cs) = by (belongs kind p c.kind c.procedure) (stated_few kind p es cs)
-  where
-    by : (b : Bool) → length (stated_as kind p (map (stated_in es) cs)) ≤ length cs
-        → length (cond b (stated_in es c ∷ stated_as kind p (map (stated_in es) cs)) (stated_as kind p (map (stated_in es) cs))) ≤ length (c ∷ cs)
-    by true h = omega (arith, h)
-    by false h = omega (arith, h)
+  counted : i < length cs → n + length (stated_as kind p (map (stated_in es) (clause ∷ drop (i + 1) cs))) ≡ whole
+  counted h = ap (λ (k : ℕ). n + k) (sym (at_drop_more (λ l. length (stated_as kind p (map (stated_in es) l))) cs i no_clause h)) ∙ inv
+
+  pub count_yes : i < length cs → true ≡ belongs kind p clause.kind clause.procedure → (m : ℕ) → m ≡ n + 1
+      → m + length (stated_as kind p (map (stated_in es) (drop (i + 1) cs))) ≡ whole
+  count_yes h e m k = let c = counted h in grind (arith, nat_tests)
+
+  pub count_no : i < length cs → false ≡ belongs kind p clause.kind clause.procedure → (m : ℕ) → m ≡ n
+      → m + length (stated_as kind p (map (stated_in es) (drop (i + 1) cs))) ≡ whole
+  count_no h e m k = let c = counted h in grind (arith, nat_tests)
 
 -- The first procedure of a name among the procedures, which are numbered from n on.
 abbrev pub numbered_at : List Entry → ℕ × Declaration → Numbered

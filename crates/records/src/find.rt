@@ -104,11 +104,15 @@ impl<'a> HeldBook<'a> {
     pub fn count_clauses(&self, kind: ClauseKind, procedure: usize) -> usize
         ensures { result ≡ length (clauses_of kind procedure (book_of self.now)) }
     {
-        // A sum and no filter, which would branch at each clause, and often wrongly.
-        self.clauses
-            .iter()
-            .map(|clause| usize::from(clause.belongs_to(kind, procedure)))
-            .sum()
+        // A loop and no `filter` and `count`, nor a sum: they take half as long again, since the compiler adds up several
+        // clauses at a time only here.
+        let mut count = 0;
+        for clause in self.clauses {
+            if clause.belongs_to(kind, procedure) {
+                count += 1;
+            }
+        }
+        count
     }
 
     /// Do the modifies clauses of the procedure of that number name this global?
