@@ -1,14 +1,15 @@
-use Rattle.std.proofs.Common.{◌≡◌, ◌==◌, ◌∙◌, ap, rules, tests}
-use Rattle.std.specs.Option.{option_map}
-use Rattle.std.proofs.lemmas.Iterator.{YieldsList-from_slice}
-use Rattle.std.proofs.lemmas.Iterator.Search.{find_from_yields_List}
-use Rattle.page.specs.declared.Entry.{Entry}
-use Rattle.records.proofs.Finds.{found_type, option_map_twice, type_found}
+use Rattle.std.proofs.Common.{arith}
+use Rattle.std.proofs.lemmas.List.{at_drop_more, at_drop_all}
+use Rattle.std.proofs.lemmas.Bool.Decides.{nat_tests}
+use Rattle.language.specs.Expressions.{type_of}
+use Rattle.records.proofs.Steps.{no_entry}
 use Rattle.records.proofs.find.find_type.Goals as goal
 
+pub returns-then-entry-name : goal.returns-then-entry-name
+returns-then-entry-name c = grind (arith, nat_tests, at_drop_more (type_of c.args.name) c.args.entries.now c.loop-entry.entry-index no_entry)
+
+pub loop-entry-preserved : goal.loop-entry-preserved
+loop-entry-preserved c = grind (arith, nat_tests, at_drop_more (type_of c.args.name) c.args.entries.now c.loop-entry.entry-index no_entry)
+
 pub returns : goal.returns
-returns c =
-    let es = c.args.entries.now in
-    let e = find_from_yields_List (λ (e : Entry). e.left == c.args.name) _ _ c.find.result c.find.ensures.ran (YieldsList-from_slice es cc) (λ x b q k. search (rules, tests)) in
-    let m : c.map.result ≡ option_map (λ r. found_type r.now) c.find.result = search rules in
-    m ∙ option_map_twice found_type (λ r. r.now) c.find.result ∙ ap (option_map found_type) e ∙ type_found c.args.name es
+returns c = grind (arith, nat_tests, at_drop_all (type_of c.args.name) c.args.entries.now c.loop-entry.entry-index)
