@@ -80,11 +80,13 @@ impl<'a> HeldBook<'a> {
     pub fn find_declared(&self, kind: DeclarationKind, name: u32) -> Option<ValueType>
         ensures { result ≡ type_of name (declared_as kind (book_of self.now).declarations) }
     {
-        self.declarations
-            .iter()
-            .map(|declaration| find_type(self.declared_as(*declaration, kind), name))
-            .find(|found| found.is_some())
-            .flatten()
+        // By hand, as in `find_type`: chains take half as long again over many records.
+        for declaration in self.declarations {
+            if let Some(t) = find_type(self.declared_as(*declaration, kind), name) {
+                return Some(t);
+            }
+        }
+        None
     }
 
     /// The procedure of that name.
