@@ -1,9 +1,9 @@
 -- Laws of look-ups.
-use Rattle.std.proofs.Common.{◌≡◌, ℕ, ◌+◌, ◌<◌, ◌≤◌, Bool, true, false, cond, ◌||◌, is_some, ◌==◌, eqb, List, [], ◌∷◌, ◌++◌, map, length, get_or, take, drop, Some, None, Option, sym, refl, ap, ◌∙◌, arith}
-use Rattle.std.proofs.lemmas.List.{at_drop_all, at_drop_more}
+use Rattle.std.proofs.Common.{◌≡◌, ℕ, ◌+◌, ◌<◌, Bool, true, false, cond, ◌||◌, is_some, ◌==◌, eqb, List, [], ◌∷◌, ◌++◌, map, length, get_or, take, drop, Some, None, Option, sym, refl, ap, ◌∙◌, arith}
+use Rattle.std.proofs.lemmas.List.{at_drop_more}
 use Rattle.std.proofs.lemmas.Bool.Decides.{nat_tests}
 use Rattle.std.specs.List.{enumerate_from, filter, find, flat_map, list_any}
-use Rattle.std.specs.Option.{option_map}
+use Rattle.std.specs.Option.{option_flatten, option_map}
 use Rattle.page.specs.declared.Entry.{Entry}
 use Rattle.language.specs.declared.ValueType.{ValueType}
 use Rattle.language.specs.Expressions.{has, type_of}
@@ -27,22 +27,18 @@ type_of-append name (x ∷ xs) ys = by (eqb x.left name) (type_of-append name xs
     by true e = refl
     by false e = e
 
--- A look-up through joined lists that has come to the one at i; `whole` is what it is to answer.
-module _ {X Y : Type 0} (f : Y → List Entry) (g : X → Y) (name : ℕ) (xs : List X) (i : ℕ) (d : X) (whole : Option ValueType)
-    (inv : type_of name (flat_map f (map g (drop i xs))) ≡ whole) where
-  step : i < length xs → or_else (type_of name (f (g (get_or xs i d)))) (type_of name (flat_map f (map g (drop (i + 1) xs)))) ≡ whole
-  step h =
-      sym (type_of-append name (f (g (get_or xs i d))) (flat_map f (map g (drop (i + 1) xs))))
-      ∙ sym (at_drop_more (λ l. type_of name (flat_map f (map g l))) xs i d h) ∙ inv
-
-  pub look_found : i < length xs → (t : ValueType) → Some t ≡ type_of name (f (g (get_or xs i d))) → Some t ≡ whole
-  look_found h t e = ap (λ (o : Option ValueType). or_else o (type_of name (flat_map f (map g (drop (i + 1) xs))))) e ∙ step h
-
-  pub look_next : i < length xs → None ≡ type_of name (f (g (get_or xs i d))) → type_of name (flat_map f (map g (drop (i + 1) xs))) ≡ whole
-  look_next h e = ap (λ (o : Option ValueType). or_else o (type_of name (flat_map f (map g (drop (i + 1) xs))))) e ∙ step h
-
-  pub look_all : length xs ≤ i → None ≡ whole
-  look_all h = sym (at_drop_all (λ l. type_of name (flat_map f (map g l))) xs i h) ∙ inv
+-- What the first list with that name has is what the joined lists have.
+pub first_has : {X Y : Type 0} (f : Y → List Entry) (g : X → Y) (name : ℕ) (xs : List X)
+    → option_flatten (find is_some (map (λ x. type_of name (f (g x))) xs)) ≡ type_of name (flat_map f (map g xs))
+first_has f g name [] = refl
+first_has f g name (x ∷ xs) =
+    by (type_of name (f (g x))) (find is_some (map (λ x. type_of name (f (g x))) xs)) (first_has f g name xs)
+    ∙ sym (type_of-append name (f (g x)) (flat_map f (map g xs)))
+  where
+    by : (o : Option ValueType) (rest : Option (Option ValueType)) → option_flatten rest ≡ type_of name (flat_map f (map g xs))
+        → option_flatten (cond (is_some o) (Some o) rest) ≡ or_else o (type_of name (flat_map f (map g xs)))
+    by None rest h = h
+    by (Some t) rest h = refl
 
 pub option_map_twice : {X Y Z : Type 0} (f : Y → Z) (g : X → Y) (o : Option X) → option_map (λ x. f (g x)) o ≡ option_map f (option_map g o)
 option_map_twice f g None = refl
